@@ -1,0 +1,1 @@
+// Only definitions, in specs/, which the other crates' contracts and theorems cite.

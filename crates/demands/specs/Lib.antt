@@ -1,0 +1,2 @@
+-- What the starred cases say.
+pub mod Starred

@@ -1,0 +1,1 @@
+// Only statements over the definitions of the other crates, and their proofs.
