@@ -1,3 +1,4 @@
--- What a reader must believe of outcomes: their numbers, and what a snapshot means.
-pub mod Answers
+-- What a reader must believe of outcomes: what a snapshot means, the number of each answer, and a snapshot's bits as a byte.
 pub mod Outcomes
+pub mod Answers
+pub mod Packed

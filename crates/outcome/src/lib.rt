@@ -1,5 +1,6 @@
 // What a snapshot of the controller means for the list that it executes.
 ghost use mathlib.Core.Path.{_≡_};
+ghost use Rattle.outcome.specs.Packed.{unpacked};
 ghost use Rattle.outcome.specs.Answers.{reasonOf, errorAnswer, answerOf};
 ghost use Rattle.outcome.specs.Outcomes.{unansweredOf, timedOutOf, errorsOf, pastOf, finishedOf, forgiveTimeout, pollOf, slotsOf, commandsOf, classifyOf, receivedOf};
 ghost use lib.ListN.{length};
@@ -61,6 +62,24 @@ pub struct Answer {
 const STOP: u32 = 2;
 
 const END: u32 = 4;
+
+// A snapshot whose bits come packed into a byte, for callers that know no structs: nack is bit 0, end_detect is bit 7.
+pub fn unpack(bits: u8, commands: [u32; 8], now: u64) -> Snapshot
+    ensures { λ r. ⌜ r ≡ unpacked bits commands now ⌝ }
+{
+    Snapshot {
+        nack: bits % 2 == 1,
+        arbitration_lost: bits / 2 % 2 == 1,
+        scl_st_to: bits / 4 % 2 == 1,
+        scl_main_st_to: bits / 8 % 2 == 1,
+        time_out: bits / 16 % 2 == 1,
+        resp_rec: bits / 32 % 2 == 1,
+        trans_complete: bits / 64 % 2 == 1,
+        end_detect: bits / 128 % 2 == 1,
+        commands: commands,
+        now: now,
+    }
+}
 
 // The transfer has completed, and the last byte's acknowledge bit was not received as ACK.
 fn is_unanswered(s: Snapshot) -> bool

@@ -1,0 +1,14 @@
+//! The Rust original and the proved crates on the same inputs.
+//!
+//! A question is a line of hex numbers that the program `replay` answers with
+//! one number; the oracle's answer to the same question is worked out here.
+
+mod list;
+mod program;
+mod question;
+mod random;
+
+pub use list::fixed_list;
+pub use program::committed;
+pub use question::{Question, disagreements};
+pub use random::Random;
