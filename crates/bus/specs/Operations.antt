@@ -1,8 +1,8 @@
--- What is asked of the bus: operations, which of them are kept, and the runs that like neighbours make.
+-- What is asked of the bus, in the words of UM10204: operations, which of them are kept, and the runs that like neighbours make.
 use Prim.Native.Nat.{ℕ, zero, suc, _+_}
 use mathlib.Core.List.{List, [], _∷_, _++_}
 
--- a write of these bytes, a read of so many
+-- 3.1.5, 3.1.10: a write of these bytes, however many; a read of so many
 pub data Operation : Type 0 where
   write : List ℕ → Operation
   read : ℕ → Operation
@@ -14,7 +14,8 @@ kept (write bytes ∷ os) = write bytes ∷ kept os
 kept (read zero ∷ os) = kept os
 kept (read (suc n) ∷ os) = read (suc n) ∷ kept os
 
--- a run: like operations, one after another, are one transfer in one direction
+-- 3.1.10: a transfer has one direction, and a repeated START turns it round. A run: like operations, one after another, are one
+-- transfer
 pub data Transfer : Type 0 where
   writes : List ℕ → Transfer
   reads : ℕ → Transfer

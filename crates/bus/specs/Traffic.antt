@@ -13,7 +13,7 @@ opening address d = startBit ∷ sent (address * 2 + directionBit d) ack ∷ []
 unfoldable pub written : List ℕ → List Event
 written bytes = map (λ (b : ℕ). sent b ack) bytes
 
--- a sensor sends its bytes in order. Beyond them SDA stays high: 255
+-- 3.1.5: a sensor sends its bytes in order, as many as it is asked for. Beyond those it has SDA stays high: 255
 unfoldable pub nextByte : List ℕ → ℕ
 nextByte sends = getD sends 0 255
 
@@ -31,7 +31,7 @@ transferred address sends (writes bytes ∷ ts) =
 transferred address sends (reads n ∷ ts) =
     opening address fromSensor ++ (received n sends ++ transferred address (drop n sends) ts)
 
--- the bus is left alone where there is nothing to transfer
+-- 3.1.4: the bus stays free where there is nothing to transfer
 unfoldable pub onBus : ℕ → List ℕ → List Transfer → List Event
 onBus address sends [] = []
 onBus address sends (t ∷ ts) = transferred address sends (t ∷ ts)
