@@ -1,1 +1,5 @@
 pub mod Starred
+pub mod Inspectors
+pub mod Built
+pub mod Passing
+pub mod Clears

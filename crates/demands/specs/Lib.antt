@@ -1,2 +1,5 @@
--- What the starred cases say.
+-- The demands as predicates over implementations, wrong implementations, and what the starred cases say.
+pub mod Inspectors
+pub mod Built
+pub mod Clears
 pub mod Starred

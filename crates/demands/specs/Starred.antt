@@ -2,14 +2,29 @@
 use Prim.Native.Nat.{ℕ}
 use mathlib.Core.Path.{_≡_}
 use mathlib.Core.Bool.{Bool, true, false}
-use mathlib.Core.List.{List, [], _∷_}
-use lib.ListN.{replicate}
+use mathlib.Core.List.{List, [], _∷_, map}
+use lib.ListN.{take, replicate}
 use Rattle.chunks.specs.Pieces.{pieces}
+use Rattle.refusal.specs.declared.Refusal.the-variants.{ZeroLengthInvalid, FifoExceeded}
+use Rattle.refusal.specs.Numbers.{numberOf}
+use Rattle.list.specs.declared.Answer.{Answer}
+use Rattle.list.specs.declared.Answer.the-variants.{Listed, Refused}
+use Rattle.list.specs.Lists.{writeOf, readOf}
+use Rattle.controller.specs.declared.Phase.the-variants.{Idle, Reading}
+use Rattle.controller.specs.declared.inspector.Verdict.the-variants.{Passes}
+use Rattle.controller.specs.declared.inspector.Verdict.the-variants as verdict
+use Rattle.controller.specs.Model.{Commands, phaseNumber}
+use Rattle.controller.specs.Verdicts.{inspected}
+use Rattle.bus_clear.specs.declared.State.the-variants.{SendStop}
+use Rattle.bus_clear.specs.declared.State.the-variants as clear
+use Rattle.bus_clear.specs.Clear.{stepOf}
+use Rattle.bus_clear.specs.Runs.{Sample}
 use Rattle.outcome.specs.declared.Outcome.the-variants.{Done}
 use Rattle.outcome.specs.declared.Snapshot.{Snapshot}
 use Rattle.outcome.specs.declared.Due.the-variants.{Never}
 use Rattle.outcome.specs.Answers.{answerOf, answering}
 use Rattle.outcome.specs.Outcomes.{errorsOf, pollOf, commandsOf}
+use Rattle.demands.specs.Clears.{polledWith, madeWith, sampled, rises, falls, alwaysLow, fresh}
 
 infix 4 _is_
 -- a row: what a definition gives `is` what the document says
@@ -26,6 +41,23 @@ AllHold (c ∷ cs) = Holds c × AllHold cs
 -- the chunk size of the base
 abbrev pub chunk : ℕ
 chunk = 31
+
+-- the FIFO of the base, and the address of the cases
+abbrev pub fifo : ℕ
+fifo = 32
+
+abbrev pub address : ℕ
+address = 0x29
+
+-- the builder's answer to a write of n bytes, and to a read of n
+abbrev pub written : ℕ → Bool → Answer
+written n start = writeOf fifo address (replicate n 7) start true .answer
+
+abbrev pub readAs : ℕ → Bool → Answer
+readAs n continues = readOf fifo address n true false continues .answer
+
+abbrev pub lastByteAndStop : Commands
+lastByteAndStop = record { words = 0x1C01 ∷ 0x1000 ∷ replicate 6 0; fifo = [] }
 
 -- a snapshot with these bits and every other clear, but resp_rec set; no command in the slots
 abbrev pub snapshot : (nack lost timeOut complete : Bool) → Snapshot
@@ -49,6 +81,10 @@ nackAndLost = snapshot true true false false
 abbrev pub doneAndTimedOut : Snapshot
 doneAndTimedOut = snapshot false false true true
 
+-- SDA reads high from the third rise on, which is the fifth poll
+abbrev pub thirdRise : ℕ → List Sample
+thirdRise polls = take polls (sampled 0 (false ∷ false ∷ false ∷ false ∷ true ∷ true ∷ []))
+
 abbrev pub starred : List Case
 starred =
     -- K1: the pieces of 1, 31, 32, 33, 34 and 63
@@ -58,8 +94,34 @@ starred =
     ∷ (pieces chunk 33 is (29 ∷ 4 ∷ []))
     ∷ (pieces chunk 34 is (31 ∷ 3 ∷ []))
     ∷ (pieces chunk 63 is (31 ∷ 29 ∷ 3 ∷ []))
+    -- K3: write limit: 31 with start passes, 32 gives 3; without, 32 passes, 33 gives 3
+    ∷ (written 31 true is Listed)
+    ∷ (written 32 true is Refused FifoExceeded)
+    ∷ (written 32 false is Listed)
+    ∷ (written 33 false is Refused FifoExceeded)
+    -- K4: read: 0 gives 2; continuing 32 passes, 33 gives 3; ending 31 passes, 32 gives 3
+    ∷ (readAs 0 true is Refused ZeroLengthInvalid)
+    ∷ (readAs 0 false is Refused ZeroLengthInvalid)
+    ∷ (readAs 32 true is Listed)
+    ∷ (readAs 33 true is Refused FifoExceeded)
+    ∷ (readAs 31 false is Listed)
+    ∷ (readAs 32 false is Refused FifoExceeded)
+    ∷ (map numberOf (ZeroLengthInvalid ∷ FifoExceeded ∷ []) is (2 ∷ 3 ∷ []))
+    -- K5: lone empty write: 3000 0901 1000
+    ∷ (writeOf fifo address [] true true .list .words is (0x3000 ∷ 0x0901 ∷ 0x1000 ∷ 0 ∷ 0 ∷ 0 ∷ 0 ∷ 0 ∷ []))
     -- K8: nack with arbitration lost is 9; done with time_out: the poll succeeds, the command check gives 11
     ∷ (answerOf (errorsOf nackAndLost) is answering 9 3)
     ∷ (pollOf doneAndTimedOut Never is Done)
     ∷ (answerOf (commandsOf doneAndTimedOut Never) is answering 11 0)
+    -- K10: SDA always low: Idle after 20 acting polls, 9 falls, 10 rises of SCL; released at the 3rd rise: 6 acting polls, 2 falls
+    ∷ (polledWith stepOf (alwaysLow 19) fresh .state is SendStop)
+    ∷ (polledWith stepOf (alwaysLow 20) fresh .state is clear.Idle)
+    ∷ (falls (madeWith stepOf (alwaysLow 20) fresh) is 9)
+    ∷ (rises (madeWith stepOf (alwaysLow 20) fresh) is 10)
+    ∷ (polledWith stepOf (thirdRise 5) fresh .state is SendStop)
+    ∷ (polledWith stepOf (thirdRise 6) fresh .state is clear.Idle)
+    ∷ (falls (madeWith stepOf (thirdRise 6) fresh) is 2)
+    -- K11: 1C01 1000: stuck from Idle, passes from Reading
+    ∷ (inspected fifo lastByteAndStop (phaseNumber Idle) is verdict.Refused)
+    ∷ (inspected fifo lastByteAndStop (phaseNumber Reading) is Passes Idle)
     ∷ []

@@ -3,12 +3,18 @@
 //! A question is a line of hex numbers that the program `replay` answers with
 //! one number; the oracle's answer to the same question is worked out here.
 
-mod list;
+mod clears;
+mod fixed;
+mod leaves;
+mod lists;
 mod program;
 mod question;
 mod random;
 
-pub use list::fixed_list;
+pub use clears::{RunQuestion, StepQuestion};
+pub use fixed::fixed_list;
+pub use leaves::Leaf;
+pub use lists::{Kind, ListQuestion, PARTS};
 pub use program::committed;
 pub use question::{Question, disagreements};
 pub use random::Random;

@@ -1,8 +1,8 @@
 //! The leaf crates against the Rust original.
 
-use differential::{Question, Random, committed, disagreements, fixed_list};
+use differential::{Leaf, Random, disagreements};
 
-fn assert_agreement(questions: &[Question]) {
+fn assert_agreement(questions: &[Leaf]) {
     let found = disagreements(questions);
     assert!(found.is_empty(), "{}", found.join("\n"));
 }
@@ -12,10 +12,10 @@ const MOST: usize = 4200;
 
 #[test]
 fn pieces_agree_for_every_length() {
-    let mut questions: Vec<Question> = (0..=MOST).map(Question::Piece).collect();
+    let mut questions: Vec<Leaf> = (0..=MOST).map(Leaf::Piece).collect();
     for n in 1..=MOST {
-        questions.push(Question::Count(n));
-        questions.extend((0..oracle::pieces(n).len()).map(|j| Question::Start(n, j)));
+        questions.push(Leaf::Count(n));
+        questions.extend((0..oracle::pieces(n).len()).map(|j| Leaf::Start(n, j)));
     }
     assert_eq!(questions.len(), 295_021);
     assert_agreement(&questions);
@@ -32,20 +32,20 @@ fn reads_are_cut_as_writes_are() {
 /// difference on these questions, and so what shows that a disagreement is found.
 #[test]
 fn no_bytes_are_one_empty_piece() {
-    let found = disagreements(&[Question::Piece(0), Question::Count(0)]);
+    let found = disagreements(&[Leaf::Piece(0), Leaf::Count(0)]);
     assert_eq!(found, ["Count(0): the Rust 0, ours 0000000000000001"]);
 }
 
 #[test]
 fn words_agree_for_every_command() {
-    let counted = (1..=255).flat_map(|count| [Question::Word(1, count), Question::Word(2, count)]);
+    let counted = (1..=255).flat_map(|count| [Leaf::Word(1, count), Leaf::Word(2, count)]);
     let single = [
-        Question::Word(0, 0),
-        Question::Word(3, 1),
-        Question::Word(4, 0),
-        Question::Word(5, 0),
+        Leaf::Word(0, 0),
+        Leaf::Word(3, 1),
+        Leaf::Word(4, 0),
+        Leaf::Word(5, 0),
     ];
-    let questions: Vec<Question> = counted.chain(single).collect();
+    let questions: Vec<Leaf> = counted.chain(single).collect();
     assert_eq!(questions.len(), 514);
     assert_agreement(&questions);
 }
@@ -67,7 +67,7 @@ fn outcomes_agree_for_all_bits_and_clock_relations() {
         for bits in 0..=255 {
             for polled in [false, true] {
                 for due in [None, Some(1001), Some(1000), Some(999)] {
-                    questions.push(Question::Outcome {
+                    questions.push(Leaf::Outcome {
                         bits,
                         polled,
                         now: 1000,
@@ -85,31 +85,17 @@ fn outcomes_agree_for_all_bits_and_clock_relations() {
 #[test]
 fn outcomes_agree_on_a_million_random_tables() {
     let mut random = Random::new(0x51a7_4b1e);
-    let questions: Vec<Question> = (0..1_000_000)
-        .map(|_| Question::random_outcome(&mut random))
+    let questions: Vec<Leaf> = (0..1_000_000)
+        .map(|_| Leaf::random_outcome(&mut random))
         .collect();
     assert_agreement(&questions);
 }
 
 #[test]
 fn received_bytes_agree_up_to_the_fifo() {
-    let questions: Vec<Question> = (0..=32)
-        .flat_map(|wanted| (0..=wanted).map(move |received| Question::Received(wanted, received)))
+    let questions: Vec<Leaf> = (0..=32)
+        .flat_map(|wanted| (0..=wanted).map(move |received| Leaf::Received(wanted, received)))
         .collect();
     assert_eq!(questions.len(), 561);
     assert_agreement(&questions);
-}
-
-#[test]
-fn the_fixed_list_is_the_oracles() {
-    let questions: String = fixed_list()
-        .iter()
-        .map(|question| question.line() + "\n")
-        .collect();
-    let answers: String = fixed_list()
-        .iter()
-        .map(|question| format!("{:016x}\n", question.oracle()))
-        .collect();
-    assert_eq!(committed("replay", "stdin"), questions);
-    assert_eq!(committed("replay", "stdout"), answers);
 }

@@ -1,0 +1,5 @@
+pub mod LawsRuns
+pub mod LawsLaying
+pub mod LawsPolled
+pub mod Clearing
+pub mod Stops

@@ -1,0 +1,2 @@
+-- What a reader must believe of command lists.
+pub mod Lists
