@@ -2,4 +2,5 @@ pub mod Starred
 pub mod Inspectors
 pub mod Built
 pub mod Passing
+pub mod Listed
 pub mod Clears

@@ -2,9 +2,11 @@
 use Prim.Native.Nat.{ℕ, _-_}
 use mathlib.Core.Bool.{Bool, true, false, cond, not, _&&_}
 use mathlib.Core.List.{List, map}
+use lib.ListN.{take}
 use Rattle.bus.specs.Events.{ack, nack, Event, startBit, stopBit, toSensor, fromSensor}
 use Rattle.command.specs.declared.Command.{Command}
 use Rattle.command.specs.Word.{encodeOf}
+use Rattle.list.specs.declared.CommandList.{CommandList}
 use Rattle.list.specs.Lists.{addressBytes, writeFifo, writeCommands, readFifo, readCommands, padded}
 use Rattle.controller.specs.declared.Phase.{Phase}
 use Rattle.controller.specs.declared.Phase.the-variants.{Idle, Started, Writing, Reading, ReadDone}
@@ -21,6 +23,10 @@ writeList address bytes start stop = commandsList (writeCommands address bytes s
 abbrev pub readList : ℕ → ℕ → Bool → Bool → Bool → Commands
 readList address n start stop continues =
     commandsList (readCommands address n start stop continues) (readFifo address start)
+
+-- a list as the builder hands it over, with the bytes that count
+abbrev pub held : CommandList → Commands
+held l = record { words = l .words; fifo = take (l .count) (l .fifo) }
 
 -- OPENING: START and the address bytes, if the list starts
 abbrev pub opens : Bool → List ℕ → Sensor → (Sensor → Run) → Run
