@@ -1,49 +1,33 @@
 -- What each list that the builder makes does on the controller model, for every size of the FIFO, sensor and what follows the list.
 -- Assumes nothing.
-use Prim.Native.Nat.{ℕ, zero, suc, _+_, _-_, _*_, _%_, _≤_, _<_}
+use Prim.Native.Nat.{ℕ, zero, suc, _+_, _-_, _*_, _%_, _≤_}
 use native.Mathlib.Omega.{arith}
 use native.Mathlib.Nat.{add-zero, zero-add}
 use mathlib.Core.Path.{_≡_, refl, sym, ap, _∙_, fun-ext}
-use mathlib.Core.Bool.{Bool, true, false, cond, not, _&&_, false≢true}
+use mathlib.Core.Bool.{Bool, true, false, cond, _&&_, false≢true}
 use mathlib.Core.List.{List, [], _∷_, _++_, map}
-use lib.ListN.{length, getD, take, drop, replicate}
+use lib.ListN.{length, replicate}
 use lib.Seq.{take-length, drop-length}
-use lib.Dec.{leb, eqb}
-use borrow.Author.Tests.{le-leb, eq-eqb, ne-eqb}
-use Rattle.bus.specs.Events.{ack, nack, startBit, stopBit, sent, toSensor, fromSensor, directionBit}
+use borrow.Author.Tests.{le-leb}
+use Rattle.bus.specs.Events.{ack, nack, startBit, toSensor, fromSensor}
 use Rattle.bus.specs.Traffic.{opening}
 use Rattle.command.specs.declared.Command.{Command}
-use Rattle.command.specs.declared.Command.the-variants.{Start, Write, Read, ReadNack, Stop, End}
+use Rattle.command.specs.declared.Command.the-variants.{Start, Write, Read, ReadNack, Stop}
 use Rattle.command.specs.declared.Meaning.{Meaning}
 use Rattle.command.specs.Word.{encodeOf, meaningOf, within, Plannable}
 use Rattle.command.proofs.Words.{decode-encode}
 use Rattle.list.specs.Lists.{sentBytes, addressBytes, counted, closing, writeFifo, writeCommands, readFifo, readCommands, padded}
 use Rattle.controller.specs.declared.Phase.{Phase}
 use Rattle.controller.specs.declared.Phase.the-variants.{Idle, Started, Writing, Reading, ReadDone}
-use Rattle.controller.specs.Rules.{State, mayStart, mayWrite, afterWrite, mayRead, mayStop, mayEnd, turn}
-use Rattle.controller.specs.Model.{Sensor, Run, stuck, emit, put, get, obey, meant, follow, runFrom, Commands, runList}
-use Rattle.demands.specs.Built.{commandsList, writeList, readList, opens, takesIn, shuts, fitsWrite, fitsRead, afterRead}
-
-put-append :
-    (xs ys sends : List ℕ) (r : ℕ) (next : Sensor → Run)
-    → put (xs ++ ys) sends r next ≡ put xs sends r (λ j. put ys (j .sends) (j .refuses) next)
-unfolding put
-put-append [] ys sends r next = refl
-put-append (x ∷ xs) ys sends zero next = ap (emit (sent x ack)) (put-append xs ys sends zero next)
-put-append (x ∷ xs) ys sends (suc zero) next = refl
-put-append (x ∷ xs) ys sends (suc (suc r)) next = ap (emit (sent x ack)) (put-append xs ys sends (suc r) next)
+use Rattle.controller.specs.Rules.{State, mayStart, mayWrite, afterWrite, mayStop, mayEnd, turn}
+use Rattle.controller.specs.Model.{Sensor, Run, stuck, emit, put, get, obey, meant, follow, runFrom, runList}
+use Rattle.demands.proofs.LawsBuilt.{put-append, goes-on}
+use Rattle.demands.specs.Built.{writeList, readList, opens, takesIn, shuts, fitsWrite, fitsRead, afterRead}
 
 -- a phase in which a list may end, by a STOP or not
 abbrev Closable : Bool → Phase → Type 0
 Closable true p = mayStop p ≡ true
 Closable false p = mayEnd p ≡ true
-
-goes-on : (p : Phase) → fitsWrite false p ≡ true → p ≡ Writing
-goes-on Idle h = absurd (false≢true h)
-goes-on Started h = absurd (false≢true h)
-goes-on Writing h = refl
-goes-on Reading h = absurd (false≢true h)
-goes-on ReadDone h = absurd (false≢true h)
 
 reads-on : (p : Phase) → fitsRead false p ≡ true → p ≡ Reading
 reads-on Idle h = absurd (false≢true h)

@@ -2,7 +2,7 @@
 -- Assumes nothing.
 use Prim.Native.Nat.{ℕ, zero, suc, _≤_}
 use native.Mathlib.Omega.{arith}
-use mathlib.Core.Path.{_≡_, refl, sym, ap, _∙_}
+use mathlib.Core.Path.{_≡_, refl, sym, _∙_}
 use mathlib.Core.Bool.{Bool, true, false, cond}
 use mathlib.Core.List.{List, [], _∷_}
 use lib.ListN.{length, take, drop}
@@ -16,13 +16,12 @@ use Rattle.command.specs.declared.Meaning.the-variants.{Planned, Malformed}
 use Rattle.command.specs.Word.{meaningOf, within}
 use Rattle.controller.specs.declared.Phase.{Phase}
 use Rattle.controller.specs.declared.Phase.the-variants.{Idle, Started, Writing, Reading, ReadDone}
-use Rattle.controller.specs.declared.inspector.Verdict.{Verdict}
 use Rattle.controller.specs.declared.inspector.Verdict.the-variants.{Passes, Refused}
 use Rattle.controller.specs.Rules.{State, Turn, halts, goesOn, finishes, turn}
 use Rattle.controller.specs.Model.{Sensor, Run, stuck, refused, done, emit, put, get, obey, meant, follow, runFrom, Commands, runList, inPhase, endOf}
 use Rattle.controller.specs.Verdicts.{willing, runOne, verdictOf, inspected}
 use Rattle.controller.proofs.LawsRuns.{obey-willing}
-use Rattle.demands.specs.Inspectors.{Inspector, Sound, Complete, refusesAll, passesAll, looksPastTheFinish, forgetsTheFifo}
+use Rattle.demands.specs.Inspectors.{Sound, Complete, refusesAll, passesAll, looksPastTheFinish, forgetsTheFifo}
 
 -- a run that does not end stuck
 abbrev Free : Run → Type 0

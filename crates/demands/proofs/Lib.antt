@@ -1,6 +1,12 @@
 pub mod Starred
 pub mod Inspectors
+pub mod LawsBuilt
 pub mod Built
 pub mod Passing
 pub mod Listed
+pub mod LawsSteps
+pub mod LawsResumed
+pub mod Planned
+pub mod LawsTurns
+pub mod Planners
 pub mod Clears

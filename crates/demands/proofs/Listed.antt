@@ -3,31 +3,19 @@
 use Prim.Native.Nat.{ℕ, _≤_}
 use native.Mathlib.Omega.{arith}
 use mathlib.Core.Path.{_≡_}
-use mathlib.Core.Bool.{Bool, true, false, cond, _&&_}
+use mathlib.Core.Bool.{Bool, true, cond, _&&_}
 use mathlib.Core.List.{List}
 use lib.ListN.{length}
-use lib.Seq.{take-append-seam}
-use Rattle.command.specs.declared.Command.{Command}
-use Rattle.list.specs.Lists.{writeLimit, readLimit, writeFifo, padded, listed, writeOf, readOf}
-use Rattle.list.proofs.Laws.{write-limit-opened, write-opened-fifo, write-more-fifo, read-limit-most, write-listed, read-listed}
+use Rattle.list.specs.Lists.{writeLimit, readLimit, writeOf, readOf}
+use Rattle.list.proofs.Laws.{read-limit-most, write-listed, read-listed}
 use Rattle.controller.specs.declared.Phase.{Phase}
 use Rattle.controller.specs.declared.Phase.the-variants.{Writing}
 use Rattle.controller.specs.declared.inspector.Verdict.the-variants.{Passes, Refused}
 use Rattle.controller.specs.Model.{phaseNumber}
 use Rattle.controller.specs.Verdicts.{inspected}
-use Rattle.demands.specs.Built.{commandsList, held, fitsWrite, fitsRead, afterRead, leaves}
+use Rattle.demands.specs.Built.{held, fitsWrite, fitsRead, afterRead, leaves}
+use Rattle.demands.proofs.LawsBuilt.{held-list, write-fits}
 use Rattle.demands.proofs.Passing.{builder-write-passes, builder-read-verdict}
-
-held-list : (commands : List Command) (fifo : List ℕ) → held (listed commands fifo .list) ≡ commandsList commands fifo
-unfolding listed padded
-held-list commands fifo = rw (take-append-seam fifo)
-
-write-fits :
-    (f : ℕ) (some : 1 ≤ f) (address : ℕ) (start : Bool) (bytes : List ℕ)
-    → length bytes ≤ writeLimit f address start
-    → length (writeFifo address bytes start) ≤ f
-write-fits f some address true bytes h = rw (write-opened-fifo address bytes) (omega (arith, write-limit-opened f address))
-write-fits f some address false bytes h = rw (write-more-fifo address bytes) h
 
 module _ (f : ℕ) (some : 1 ≤ f) (small : f ≤ 255) (address : ℕ) (known : address ≤ 127) (start stop : Bool) (p : Phase) where
   pub listed-write-passes :

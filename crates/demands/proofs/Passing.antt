@@ -8,21 +8,14 @@ use lib.ListN.{length}
 use Rattle.bus.specs.Events.{ack, nack, toSensor, fromSensor}
 use Rattle.list.specs.Lists.{addressBytes, writeFifo}
 use Rattle.controller.specs.declared.Phase.{Phase}
-use Rattle.controller.specs.declared.Phase.the-variants.{Idle, Started, Writing, Reading, ReadDone}
+use Rattle.controller.specs.declared.Phase.the-variants.{Writing}
 use Rattle.controller.specs.declared.inspector.Verdict.the-variants.{Passes, Refused}
-use Rattle.controller.specs.Model.{Sensor, Run, stuck, done, runList, phaseNumber, inPhase}
+use Rattle.controller.specs.Model.{Sensor, Run, done, phaseNumber}
 use Rattle.controller.specs.Verdicts.{willing, verdictOf, inspected}
 use Rattle.controller.proofs.LawsRuns.{put-willing, get-willing}
 use Rattle.demands.specs.Built.{writeList, readList, opens, takesIn, shuts, fitsWrite, fitsRead, afterRead, leaves}
+use Rattle.demands.proofs.LawsBuilt.{in-its-phase}
 use Rattle.demands.proofs.Built.{built-write, built-read, built-read-stuck}
-
-in-its-phase : (p : Phase) (run : Phase → Run) → inPhase (phaseNumber p) run ≡ run p
-unfolding inPhase
-in-its-phase Idle run = refl
-in-its-phase Started run = refl
-in-its-phase Writing run = refl
-in-its-phase Reading run = refl
-in-its-phase ReadDone run = refl
 
 -- the blocks against the willing sensor
 opens-willing : (start : Bool) (address : List ℕ) (next : Sensor → Run) → verdictOf (opens start address willing next) ≡ verdictOf (next willing)

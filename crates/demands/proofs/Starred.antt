@@ -4,7 +4,12 @@ use mathlib.Core.Path.{refl}
 use Rattle.bus.specs.Traffic.{opening, nextByte}
 use Rattle.command.specs.Word.{meaningOf, within}
 use Rattle.chunks.specs.Pieces.{pieceOf, piecesBy, pieces}
-use Rattle.list.specs.Lists.{sentBytes, writeFifo, writeCommands, padded, listed, unlisted, writeOf, readOf}
+use Rattle.bus.specs.Operations.{kept}
+use Rattle.list.specs.Lists.{sentBytes, writeFifo, writeCommands, readFifo, readCommands, padded, listed, unlisted, writeOf, readOf, writeStepOf, readStepOf}
+use Rattle.script.specs.Records.{operationsFrom}
+use Rattle.script.specs.Scripts.{readTotal, bodyOf, scriptOf}
+use Rattle.plan.specs.Steps.{writeSteps, readSteps, stepsFrom}
+use Rattle.plan.specs.Plan.{listsOf, planned}
 use Rattle.controller.specs.Rules.{turn}
 use Rattle.controller.specs.Model.{put, get, obey, runFrom, runList, inPhase}
 use Rattle.controller.specs.Verdicts.{inspected}
@@ -14,5 +19,5 @@ use Rattle.demands.specs.Clears.{polledWith, madeWith, sampled, rises, f
 use Rattle.demands.specs.Starred.{AllHold, starred}
 
 pub starred-cases : AllHold starred
-unfolding opening nextByte meaningOf within pieceOf piecesBy pieces sentBytes writeFifo writeCommands padded listed unlisted writeOf readOf turn put get obey runFrom runList inPhase inspected errorsOf pollOf slotsOf commandsOf stepOf polledWith madeWith sampled rises falls
-starred-cases = (refl, (refl, (refl, (refl, (refl, (refl, (refl, (refl, (refl, (refl, (refl, (refl, (refl, (refl, (refl, (refl, (refl, (refl, (refl, (refl, (refl, (refl, (refl, (refl, (refl, (refl, (refl, (refl, (refl, (refl, tt))))))))))))))))))))))))))))))
+unfolding kept readFifo readCommands writeStepOf readStepOf operationsFrom readTotal bodyOf scriptOf writeSteps readSteps stepsFrom listsOf planned opening nextByte meaningOf within pieceOf piecesBy pieces sentBytes writeFifo writeCommands padded listed unlisted writeOf readOf turn put get obey runFrom runList inPhase inspected errorsOf pollOf slotsOf commandsOf stepOf polledWith madeWith sampled rises falls
+starred-cases = (refl, (refl, (refl, (refl, (refl, (refl, (refl, (refl, (refl, (refl, (refl, (refl, (refl, (refl, (refl, (refl, (refl, (refl, (refl, (refl, (refl, (refl, (refl, (refl, (refl, (refl, (refl, (refl, (refl, (refl, (refl, (refl, (refl, tt)))))))))))))))))))))))))))))))))

@@ -1,16 +1,16 @@
 -- What the builder's lists do on the controller model: three blocks say it for every list. The first argument is the size of the FIFO.
 use Prim.Native.Nat.{ℕ, _-_}
-use mathlib.Core.Bool.{Bool, true, false, cond, not, _&&_}
+use mathlib.Core.Bool.{Bool, true, false}
 use mathlib.Core.List.{List, map}
 use lib.ListN.{take}
-use Rattle.bus.specs.Events.{ack, nack, Event, startBit, stopBit, toSensor, fromSensor}
+use Rattle.bus.specs.Events.{ack, nack, startBit, stopBit}
 use Rattle.command.specs.declared.Command.{Command}
 use Rattle.command.specs.Word.{encodeOf}
 use Rattle.list.specs.declared.CommandList.{CommandList}
-use Rattle.list.specs.Lists.{addressBytes, writeFifo, writeCommands, readFifo, readCommands, padded}
+use Rattle.list.specs.Lists.{writeFifo, writeCommands, readFifo, readCommands, padded}
 use Rattle.controller.specs.declared.Phase.{Phase}
 use Rattle.controller.specs.declared.Phase.the-variants.{Idle, Started, Writing, Reading, ReadDone}
-use Rattle.controller.specs.Rules.{mayStart, mayRead, mayStop, mayEnd}
+use Rattle.controller.specs.Rules.{mayStart, mayRead}
 use Rattle.controller.specs.Model.{Sensor, Run, emit, put, get, Commands}
 
 -- the words and FIFO bytes of a list with these commands

@@ -4,7 +4,6 @@ use mathlib.Core.Path.{_≡_}
 use mathlib.Core.Bool.{Bool, true, false, cond, _&&_}
 use mathlib.Core.List.{List, [], _∷_}
 use lib.ListN.{take}
-use Rattle.command.specs.declared.Command.{Command}
 use Rattle.command.specs.declared.Command.the-variants.{Start, Write, Read, ReadNack, Stop, End}
 use Rattle.command.specs.declared.Meaning.{Meaning}
 use Rattle.command.specs.declared.Meaning.the-variants.{Planned, Malformed}

@@ -3,13 +3,17 @@ use Prim.Native.Nat.{ℕ}
 use mathlib.Core.Path.{_≡_}
 use mathlib.Core.Bool.{Bool, true, false}
 use mathlib.Core.List.{List, [], _∷_, map}
-use lib.ListN.{take, replicate}
+use lib.ListN.{take, drop, replicate}
+use Rattle.bus.specs.Operations.{Operation, write, read}
 use Rattle.chunks.specs.Pieces.{pieces}
 use Rattle.refusal.specs.declared.Refusal.the-variants.{ZeroLengthInvalid, FifoExceeded}
 use Rattle.refusal.specs.Numbers.{numberOf}
 use Rattle.list.specs.declared.Answer.{Answer}
 use Rattle.list.specs.declared.Answer.the-variants.{Listed, Refused}
+use Rattle.list.specs.declared.CommandList.{CommandList}
 use Rattle.list.specs.Lists.{writeOf, readOf}
+use Rattle.script.specs.Scripts.{Script, asks, refused, scriptOf}
+use Rattle.plan.specs.Plan.{planned}
 use Rattle.controller.specs.declared.Phase.the-variants.{Idle, Reading}
 use Rattle.controller.specs.declared.inspector.Verdict.the-variants.{Passes}
 use Rattle.controller.specs.declared.inspector.Verdict.the-variants as verdict
@@ -24,6 +28,7 @@ use Rattle.outcome.specs.declared.Snapshot.{Snapshot}
 use Rattle.outcome.specs.declared.Due.the-variants.{Never}
 use Rattle.outcome.specs.Answers.{answerOf, answering}
 use Rattle.outcome.specs.Outcomes.{errorsOf, pollOf, commandsOf}
+use Rattle.demands.specs.Built.{held}
 use Rattle.demands.specs.Clears.{polledWith, madeWith, sampled, rises, falls, alwaysLow, fresh}
 
 infix 4 _is_
@@ -55,6 +60,20 @@ written n start = writeOf fifo address (replicate n 7) start true .answer
 
 abbrev pub readAs : ℕ → Bool → Answer
 readAs n continues = readOf fifo address n true false continues .answer
+
+-- the lists of a script, and the words of the lists of operations
+abbrev pub list : List ℕ → List ℕ → Commands
+list words fifo = record { words = words; fifo = fifo }
+
+abbrev pub listsOf : Script → List Commands
+listsOf (asks os) = map held (planned fifo chunk address os)
+listsOf (refused r) = []
+
+abbrev pub scriptLists : List ℕ → List Commands
+scriptLists bytes = listsOf (scriptOf address bytes)
+
+abbrev pub plannedWords : List Operation → List (List ℕ)
+plannedWords os = map (λ (l : CommandList). l .words) (planned fifo chunk address os)
 
 abbrev pub lastByteAndStop : Commands
 lastByteAndStop = record { words = 0x1C01 ∷ 0x1000 ∷ replicate 6 0; fifo = [] }
@@ -94,6 +113,11 @@ starred =
     ∷ (pieces chunk 33 is (29 ∷ 4 ∷ []))
     ∷ (pieces chunk 34 is (31 ∷ 3 ∷ []))
     ∷ (pieces chunk 63 is (31 ∷ 29 ∷ 3 ∷ []))
+    -- K2: script 01 00 07 00 01 00 A0 00 02 01; lists 3000 0902 2000, FIFO 52 A0; 3000 0901 1801 1C01 1000, FIFO 53
+    ∷ (scriptLists (1 ∷ 0 ∷ 7 ∷ 0 ∷ 1 ∷ 0 ∷ 0xA0 ∷ 0 ∷ 2 ∷ 1 ∷ [])
+    is (list (0x3000 ∷ 0x0902 ∷ 0x2000 ∷ 0 ∷ 0 ∷ 0 ∷ 0 ∷ 0 ∷ []) (0x52 ∷ 0xA0 ∷ [])
+    ∷ list (0x3000 ∷ 0x0901 ∷ 0x1801 ∷ 0x1C01 ∷ 0x1000 ∷ 0 ∷ 0 ∷ 0 ∷ []) (0x53 ∷ [])
+    ∷ []))
     -- K3: write limit: 31 with start passes, 32 gives 3; without, 32 passes, 33 gives 3
     ∷ (written 31 true is Listed)
     ∷ (written 32 true is Refused FifoExceeded)
@@ -109,6 +133,11 @@ starred =
     ∷ (map numberOf (ZeroLengthInvalid ∷ FifoExceeded ∷ []) is (2 ∷ 3 ∷ []))
     -- K5: lone empty write: 3000 0901 1000
     ∷ (writeOf fifo address [] true true .list .words is (0x3000 ∷ 0x0901 ∷ 0x1000 ∷ 0 ∷ 0 ∷ 0 ∷ 0 ∷ 0 ∷ []))
+    -- K6: write of 1, empty read, write of 1: 3000 0902 2000, then 0901 1000 2000
+    ∷ (plannedWords (write (7 ∷ []) ∷ read 0 ∷ write (8 ∷ []) ∷ [])
+    is ((0x3000 ∷ 0x0902 ∷ 0x2000 ∷ 0 ∷ 0 ∷ 0 ∷ 0 ∷ 0 ∷ []) ∷ (0x0901 ∷ 0x1000 ∷ 0x2000 ∷ 0 ∷ 0 ∷ 0 ∷ 0 ∷ 0 ∷ []) ∷ []))
+    -- K7: write of 1, then empty write: second list 1000 2000
+    ∷ (drop 1 (plannedWords (write (7 ∷ []) ∷ write [] ∷ [])) is ((0x1000 ∷ 0x2000 ∷ 0 ∷ 0 ∷ 0 ∷ 0 ∷ 0 ∷ 0 ∷ []) ∷ []))
     -- K8: nack with arbitration lost is 9; done with time_out: the poll succeeds, the command check gives 11
     ∷ (answerOf (errorsOf nackAndLost) is answering 9 3)
     ∷ (pollOf doneAndTimedOut Never is Done)

@@ -1,0 +1,70 @@
+-- Our planner meets what is asked of a planner; each wrong one is refuted.
+-- Assumes nothing.
+use Prim.Native.Nat.{ℕ}
+use native.Mathlib.Omega.{arith}
+use mathlib.Core.Path.{_≡_, refl, ap, _∙_}
+use mathlib.Core.List.{List, [], _∷_}
+use lib.ListN.{length, drop}
+use Rattle.bus.specs.Events.{Event, startBit, stopBit, sent, got}
+use Rattle.bus.specs.Operations.{write, read, kept, join, runs}
+use Rattle.bus.specs.Traffic.{opening, written, nextByte, received, transferred, onBus, traffic, cut}
+use Rattle.chunks.specs.Pieces.{pieceOf, piecesBy, pieces}
+use Rattle.command.specs.Word.{meaningOf, within}
+use Rattle.list.specs.Lists.{sentBytes, writeFifo, writeCommands, readFifo, readCommands, padded, listed, unlisted, writeOf, readOf, writeStepOf, readStepOf}
+use Rattle.controller.specs.declared.Phase.the-variants.{Idle}
+use Rattle.controller.specs.declared.inspector.Verdict.the-variants.{Passes}
+use Rattle.controller.specs.Rules.{turn}
+use Rattle.controller.specs.Model.{put, get, obey, runFrom, runList, runLists, eventsOf}
+use Rattle.controller.specs.Verdicts.{willing, verdictOf}
+use Rattle.plan.specs.Steps.{writeSteps, readSteps, stepsFrom}
+use Rattle.plan.specs.Plan.{listsOf, planned}
+use Rattle.demands.specs.Plans.{meets, planRun}
+use Rattle.demands.specs.Planners.{PutsTraffic, PassesInTurn, ours, refusesAll, emptyList, fixedList, bareStops}
+use Rattle.demands.proofs.LawsTurns.{in-turn-runs}
+use Rattle.demands.proofs.Planned.{plan-run, plan-traffic}
+
+pub ours-puts-traffic : PutsTraffic ours
+unfolding planRun
+ours-puts-traffic address os k known = plan-traffic 32 31 (omega arith) (omega arith) (omega arith) address known os k
+
+passes-over : (es : List Event) (sends : List ℕ) → verdictOf (meets es sends 0) ≡ Passes Idle
+unfolding meets
+passes-over [] sends = refl
+passes-over (startBit ∷ es) sends = passes-over es sends
+passes-over (stopBit ∷ es) sends = passes-over es sends
+passes-over (sent b a ∷ es) sends = passes-over es sends
+passes-over (got b a ∷ es) sends = passes-over es (drop 1 sends)
+
+pub planned-pass : PassesInTurn ours
+unfolding planRun
+planned-pass address os known =
+    in-turn-runs 32 (ours address os) Idle
+    ∙ ap verdictOf (plan-run 32 31 (omega arith) (omega arith) (omega arith) address known os willing)
+    ∙ passes-over (traffic address [] (kept os)) []
+
+-- an empty write is traffic: START, the address, STOP
+pub refuses-all-planner-refuted : PutsTraffic refusesAll → ⊥
+unfolding runLists eventsOf kept join runs opening written transferred onBus traffic cut
+refuses-all-planner-refuted h =
+    let same : _≡_ {A = ℕ} 0 3 = ap length (h 0 (write [] ∷ []) willing (omega arith)) in
+    absurd (omega arith)
+
+pub empty-list-refuted : PutsTraffic emptyList → ⊥
+unfolding meaningOf within runFrom runList runLists eventsOf kept join runs opening written transferred onBus traffic cut
+empty-list-refuted h =
+    let same : _≡_ {A = ℕ} 0 3 = ap length (h 0 (write [] ∷ []) willing (omega arith)) in
+    absurd (omega arith)
+
+-- nothing kept is no traffic
+pub fixed-list-refuted : PutsTraffic fixedList → ⊥
+unfolding meaningOf within turn put obey runFrom runList runLists eventsOf kept runs onBus traffic cut
+fixed-list-refuted h =
+    let same : _≡_ {A = ℕ} 3 0 = ap length (h 0 [] willing (omega arith)) in
+    absurd (omega arith)
+
+-- a write, then a read of one byte: START and the address twice, the byte, STOP
+pub bare-stops-refuted : PutsTraffic bareStops → ⊥
+unfolding pieceOf piecesBy pieces sentBytes writeFifo writeCommands readFifo readCommands padded listed unlisted writeOf readOf writeStepOf readStepOf writeSteps readSteps stepsFrom listsOf planned meaningOf within turn put get obey runFrom runList runLists eventsOf kept join runs opening written received nextByte transferred onBus traffic cut
+bare-stops-refuted h =
+    let same : _≡_ {A = ℕ} 3 6 = ap length (h 0 (write [] ∷ read 1 ∷ []) willing (omega arith)) in
+    absurd (omega arith)

@@ -1,0 +1,59 @@
+-- What is asked of a planner, and planners that are wrong. A planner gives the lists for an address and operations, in the base's sizes.
+use Prim.Native.Nat.{ℕ, _≤_}
+use mathlib.Core.Path.{_≡_}
+use mathlib.Core.List.{List, [], _∷_, _++_, map}
+use lib.ListN.{take, drop, replicate}
+use Rattle.bus.specs.Operations.{Operation, kept}
+use Rattle.bus.specs.Traffic.{traffic, cut}
+use Rattle.controller.specs.declared.Phase.{Phase}
+use Rattle.controller.specs.declared.Phase.the-variants.{Idle}
+use Rattle.controller.specs.declared.inspector.Verdict.{Verdict}
+use Rattle.controller.specs.declared.inspector.Verdict.the-variants.{Passes, Refused}
+use Rattle.controller.specs.Model.{Sensor, Commands, runLists, phaseNumber, eventsOf}
+use Rattle.controller.specs.Verdicts.{inspected}
+use Rattle.plan.specs.Plan.{planned}
+use Rattle.demands.specs.Built.{held}
+
+abbrev pub Planner : Type 0
+Planner = ℕ → List Operation → List Commands
+
+abbrev pub ours : Planner
+ours address os = map held (planned 32 31 address os)
+
+-- demand 3: "Every planned list passes in its turn from Idle"
+abbrev pub andThen : Verdict → (Phase → Verdict) → Verdict
+andThen Refused next = Refused
+andThen (Passes p) next = next p
+
+unfoldable pub inTurn : ℕ → List Commands → Phase → Verdict
+inTurn f [] p = Passes p
+inTurn f (l ∷ ls) p = andThen (inspected f l (phaseNumber p)) (λ q. inTurn f ls q)
+
+abbrev pub PassesInTurn : Planner → Type 0
+PassesInTurn plan = (address : ℕ) (os : List Operation) → address ≤ 127 → inTurn 32 (plan address os) Idle ≡ Passes Idle
+
+-- demands 2 and 3: "the bus traffic equals a definition written from UM10204", for every sensor
+abbrev pub PutsTraffic : Planner → Type 0
+PutsTraffic plan =
+    (address : ℕ) (os : List Operation) (k : Sensor)
+    → address ≤ 127
+    → eventsOf (runLists 32 (plan address os) Idle k) ≡ cut (k .refuses) (traffic address (k .sends) (kept os))
+
+-- WRONG PLANNERS
+-- it refuses all
+abbrev pub refusesAll : Planner
+refusesAll address os = []
+
+-- one list without a command
+abbrev pub emptyList : Planner
+emptyList address os = record { words = replicate 8 0; fifo = [] } ∷ []
+
+-- one fixed list: START, the address 29 hex for a write, STOP
+abbrev pub fixedList : Planner
+fixedList address os = record { words = 0x3000 ∷ 0x0901 ∷ 0x1000 ∷ replicate 5 0; fifo = 0x52 ∷ [] } ∷ []
+
+-- a right first list, and bare STOPs after it
+abbrev pub bareStops : Planner
+bareStops address os =
+    take 1 (ours address os)
+    ++ map (λ (l : Commands). record { words = 0x1000 ∷ replicate 7 0; fifo = [] }) (drop 1 (ours address os))

@@ -1,0 +1,3 @@
+-- What a reader must believe of plans.
+pub mod Steps
+pub mod Plan

@@ -1,0 +1,1 @@
+// Definitions only: the command lists that a transaction comes to. Its theorems stand in crate `demands`.

@@ -1,0 +1,4 @@
+pub mod Laws
+pub mod LawsWalk
+pub mod Refusals
+pub mod Written
