@@ -19,6 +19,29 @@ use Rattle.demands.specs.Built.{opens, takesIn, shuts, fitsWrite, fitsRe
 use Rattle.demands.proofs.LawsBuilt.{put-append}
 use Rattle.demands.proofs.LawsSteps.{takes-add, pieces-cut, goes, write-pieces, read-pieces}
 
+-- every read is of some bytes
+abbrev pub Some : List Transfer → Type 0
+Some [] = Unit {0}
+Some (writes bytes ∷ ts) = Some ts
+Some (reads n ∷ ts) = (1 ≤ n) × Some ts
+
+pub some-runs : (os : List Operation) → Some (runs (kept os))
+unfolding kept runs join
+some-runs [] = tt
+some-runs (write bytes ∷ os) = go (runs (kept os)) (some-runs os)
+  where
+    go : (ts : List Transfer) → Some ts → Some (join (write bytes) ts)
+    go [] h = tt
+    go (writes more ∷ ts) h = h
+    go (reads n ∷ ts) h = h
+some-runs (read zero ∷ os) = some-runs os
+some-runs (read (suc n) ∷ os) = go (runs (kept os)) (some-runs os)
+  where
+    go : (ts : List Transfer) → Some ts → Some (join (read (suc n)) ts)
+    go [] h = (omega arith, tt)
+    go (writes bytes ∷ ts) h = (omega arith, h)
+    go (reads m ∷ ts) h = (omega arith, h .1)
+
 -- RUNS, ONE AFTER ANOTHER, and then a STOP. The first goes on with what stands before, if that is like it
 module _ (address : ℕ) where
   unfoldable pub resume : Before → List Transfer → Sensor → Run

@@ -9,4 +9,5 @@ pub mod LawsResumed
 pub mod Planned
 pub mod LawsTurns
 pub mod Planners
+pub mod Counted
 pub mod Clears

@@ -19,7 +19,7 @@ use Rattle.plan.specs.Plan.{listsOf, planned}
 use Rattle.demands.specs.Built.{takesIn, shuts}
 use Rattle.demands.specs.Plans.{meets, planRun}
 use Rattle.demands.proofs.LawsSteps.{goes}
-use Rattle.demands.proofs.LawsResumed.{resume, runs-on}
+use Rattle.demands.proofs.LawsResumed.{Some, some-runs, resume, runs-on}
 
 abbrev left : List ℕ → ℕ → Sensor
 left sends refuses = record { sends = sends; refuses = refuses }
@@ -53,29 +53,6 @@ takes-meets :
 takes-meets n sends r next es h =
     let but-one : suc n - 1 ≡ n = omega arith in
     rw but-one (last-meets n sends r next es h)
-
--- every read is of some bytes
-abbrev Some : List Transfer → Type 0
-Some [] = Unit {0}
-Some (writes bytes ∷ ts) = Some ts
-Some (reads n ∷ ts) = (1 ≤ n) × Some ts
-
-some-runs : (os : List Operation) → Some (runs (kept os))
-unfolding kept runs join
-some-runs [] = tt
-some-runs (write bytes ∷ os) = go (runs (kept os)) (some-runs os)
-  where
-    go : (ts : List Transfer) → Some ts → Some (join (write bytes) ts)
-    go [] h = tt
-    go (writes more ∷ ts) h = h
-    go (reads n ∷ ts) h = h
-some-runs (read zero ∷ os) = some-runs os
-some-runs (read (suc n) ∷ os) = go (runs (kept os)) (some-runs os)
-  where
-    go : (ts : List Transfer) → Some ts → Some (join (read (suc n)) ts)
-    go [] h = (omega arith, tt)
-    go (writes bytes ∷ ts) h = (omega arith, h)
-    go (reads m ∷ ts) h = (omega arith, h .1)
 
 module _ (address : ℕ) where
   resume-meets :

@@ -3,5 +3,6 @@ pub mod Inspectors
 pub mod Built
 pub mod Plans
 pub mod Planners
+pub mod Tallies
 pub mod Clears
 pub mod Starred
