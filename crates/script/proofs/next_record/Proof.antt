@@ -7,13 +7,17 @@ use Rattle.script.proofs.next_record.Statement.{statement}
 use Rattle.script.proofs.next_record.Tie as tie
 
 returns : tie.Need-returns
-returns c = sym (step-end (c .before .before .args .script .now) (c .before .before .args .at) (omega arith))
+returns c =
+    let args = c .before .before .args in
+    sym (step-end (args .script .now) (args .at) (omega arith))
 
 sub-if2 : tie.Need-sub-if2
 sub-if2 c = search needs
 
 returns-2 : tie.Need-returns-2
-returns-2 c = sym (step-short (c .before .before .before .args .script .now) (c .before .before .before .args .at) (omega arith) (omega arith))
+returns-2 c =
+    let args = c .before .before .before .args in
+    sym (step-short (args .script .now) (args .at) (omega arith) (omega arith))
 
 shared-slice-read-big-endian : tie.Need-shared-slice-read-big-endian
 shared-slice-read-big-endian c = search needs
@@ -37,10 +41,16 @@ add-t16 : tie.Need-add-t16
 add-t16 c = search needs
 
 returns-3 : tie.Need-returns-3
-returns-3 c = sym (step-read (c .before .before .before .before .before .before .before .before .args .script .now) (c .before .before .before .before .before .before .before .before .args .at) (omega arith) (c .before .before .big-endian .result) (c .before .before .big-endian .ensures) (c .if3 .taken))
+returns-3 c =
+    let args = c .before .before .before .before .before .before .before .before .args in
+    let length = c .before .before .big-endian in
+    sym (step-read (args .script .now) (args .at) (omega arith) (length .result) (length .ensures) (c .if3 .taken))
 
 returns-4 : tie.Need-returns-4
-returns-4 c = sym (step-unknown (c .before .before .before .before .before .before .before .before .before .args .script .now) (c .before .before .before .before .before .before .before .before .before .args .at) (omega arith) (c .before .before .before .big-endian .result) (c .before .before .before .big-endian .ensures) (c .if4 .taken) (c .before .if3 .left))
+returns-4 c =
+    let args = c .before .before .before .before .before .before .before .before .before .args in
+    let length = c .before .before .before .big-endian in
+    sym (step-unknown (args .script .now) (args .at) (omega arith) (length .result) (length .ensures) (c .if4 .taken) (c .before .if3 .left))
 
 sub-if5 : tie.Need-sub-if5
 sub-if5 c = search needs
@@ -52,7 +62,10 @@ cast-if5 : tie.Need-cast-if5
 cast-if5 c = search needs
 
 returns-5 : tie.Need-returns-5
-returns-5 c = sym (step-cut (c .before .before .before .before .before .before .before .before .before .before .args .script .now) (c .before .before .before .before .before .before .before .before .before .before .args .at) (omega arith) (c .before .before .before .before .big-endian .result) (c .before .before .before .before .big-endian .ensures) (c .before .if4 .left) (c .if5 .taken))
+returns-5 c =
+    let args = c .before .before .before .before .before .before .before .before .before .before .args in
+    let length = c .before .before .before .before .big-endian in
+    sym (step-cut (args .script .now) (args .at) (omega arith) (length .result) (length .ensures) (c .before .if4 .left) (c .if5 .taken))
 
 add-t5 : tie.Need-add-t5
 add-t5 c = search needs
@@ -64,7 +77,10 @@ add-t18 : tie.Need-add-t18
 add-t18 c = search needs
 
 returns-6 : tie.Need-returns-6
-returns-6 c = sym (step-write (c .before .before .before .before .before .before .before .before .before .before .args .script .now) (c .before .before .before .before .before .before .before .before .before .before .args .at) (omega arith) (c .before .before .before .before .big-endian .result) (c .before .before .before .before .big-endian .ensures) (c .before .if4 .left) (c .if5 .left))
+returns-6 c =
+    let args = c .before .before .before .before .before .before .before .before .before .before .args in
+    let length = c .before .before .before .before .big-endian in
+    sym (step-write (args .script .now) (args .at) (omega arith) (length .result) (length .ensures) (c .before .if4 .left) (c .if5 .left))
 
 pub next-record-spec : {M : Type 1} → statement M
 next-record-spec =

@@ -8,17 +8,22 @@ use Rattle.script.proofs.read_script.Statement.{statement}
 use Rattle.script.proofs.read_script.Tie as tie
 
 returns : tie.Need-returns
-returns c = rw (refused-address (c .before .before .args .address) (c .before .before .args .script .now) (c .if1 .taken))
+returns c =
+    let args = c .before .before .args in
+    rw (refused-address (args .address) (args .script .now) (c .if1 .taken))
 
 returns-2 : tie.Need-returns-2
-returns-2 c = rw (refused-short (c .before .before .before .args .address) (c .before .before .before .args .script .now) (c .before .if1 .left) (c .if2 .taken))
+returns-2 c =
+    let args = c .before .before .before .args in
+    rw (refused-short (args .address) (args .script .now) (c .before .if1 .left) (c .if2 .taken))
 
 shared-slice-read-if3 : tie.Need-shared-slice-read-if3
 shared-slice-read-if3 c = search needs
 
 returns-3 : tie.Need-returns-3
 returns-3 c =
-    rw (refused-version (c .before .before .before .before .before .args .address) (c .before .before .before .before .before .args .script .now) (omega arith) (c .before .before .if2 .left) (c .if3 .taken))
+    let args = c .before .before .before .before .before .args in
+    rw (refused-version (args .address) (args .script .now) (omega arith) (c .before .before .if2 .left) (c .if3 .taken))
 
 shared-slice-read-big-endian : tie.Need-shared-slice-read-big-endian
 shared-slice-read-big-endian c = search needs
@@ -34,28 +39,32 @@ cast-field c = search needs
 
 returns-4 : tie.Need-returns-4
 returns-4 c =
+    let args = c .before .before .before .before .before .before .before .before .before .args in
     let over = rw (c .before .big-endian .ensures) at (c .if4 .taken) in
-    rw (refused-field (c .before .before .before .before .before .before .before .before .before .args .address) (c .before .before .before .before .before .before .before .before .before .args .script .now) (omega arith) (omega arith) (c .before .before .before .before .if3 .left) over)
+    rw (refused-field (args .address) (args .script .now) (omega arith) (omega arith) (c .before .before .before .before .if3 .left) over)
 
 sub-if5 : tie.Need-sub-if5
 sub-if5 c = search needs
 
 returns-5 : tie.Need-returns-5
 returns-5 c =
+    let args = c .before .before .before .before .before .before .before .before .before .before .args in
     let field = c .before .before .big-endian .ensures in
     let within = rw field at (c .before .if4 .left) in
     let other = rw field at (c .if5 .taken) in
-    rw (refused-length (c .before .before .before .before .before .before .before .before .before .before .args .address) (c .before .before .before .before .before .before .before .before .before .before .args .script .now) (omega arith) (omega arith) (c .before .before .before .before .before .if3 .left) within other)
+    rw (refused-length (args .address) (args .script .now) (omega arith) (omega arith) (c .before .before .before .before .before .if3 .left) within other)
 
 read-body-requires : tie.Need-read-body-requires
 read-body-requires c κs = search needs
 
 returns-6 : tie.Need-returns-6
 returns-6 c =
+    let args = c .before .before .before .before .before .before .before .before .before .before .before .args in
     let field = c .before .before .before .big-endian .ensures in
     let within = rw field at (c .before .before .if4 .left) in
     let same = rw field at (c .before .if5 .left) in
-    c .read-body .ensures ∙ ap answerOf (sym (judged-by-body (c .before .before .before .before .before .before .before .before .before .before .before .args .address) (c .before .before .before .before .before .before .before .before .before .before .before .args .script .now) (omega arith) (omega arith) (c .before .before .before .before .before .before .if3 .left) within same))
+    let judged = judged-by-body (args .address) (args .script .now) (omega arith) (omega arith) (c .before .before .before .before .before .before .if3 .left) within same in
+    c .read-body .ensures ∙ ap answerOf (sym judged)
 
 pub read-script-spec : {M : Type 1} → statement M
 read-script-spec =
