@@ -6,8 +6,8 @@ use native.Mathlib.Omega.{arith}
 use mathlib.Core.Path.{_≡_, refl, ap}
 use mathlib.Core.List.{List, [], _∷_}
 use mathlib.Core.Bool.{Bool, true, false, cond}
-use lib.Dec.{leb}
-use borrow.Author.Tests.{le-leb, lt-leb, leb-true, leb-false, lt-ltb, le-ltb}
+use lib.Dec.{leb, ltb}
+use borrow.Author.Tests.{le-leb, lt-leb, leb-true, leb-false, lt-ltb, le-ltb, ltb-true}
 use Rattle.chunks.specs.Pieces.{pieceOf, piecesBy, pieces, countOf, startOf}
 
 -- the length of the next piece, case by case
@@ -120,3 +120,21 @@ module _ (c n j : ℕ) where
   pub start-near : j < countOf c n → n ≤ j * c + 2 → startOf c n j ≡ j * c - 2
   unfolding startOf
   start-near h k = rw (lt-ltb j (countOf c n) h, le-leb n (j * c + 2) k)
+
+  -- no piece starts past the end
+  pub start-most : startOf c n j ≤ n
+  unfolding startOf
+  start-most = go (ltb j (countOf c n)) refl
+    where
+      go : (t : Bool) → ltb j (countOf c n) ≡ t → cond t (j * c - cond (leb n (j * c + 2)) 2 0) n ≤ n
+      go true e = omega (arith, start-inside (ltb-true j (countOf c n) e))
+      go false e = omega arith
+
+-- a piece takes no more than is left, and no more than a chunk
+pub piece-most : (c r : ℕ) → (pieceOf c r ≤ r) × (pieceOf c r ≤ c)
+unfolding pieceOf
+piece-most c r = go (leb r c) (leb r (c + 2)) refl where
+  go : (small near : Bool) → leb r c ≡ small → (cond small r (cond near (c - 2) c) ≤ r) × (cond small r (cond near (c - 2) c) ≤ c)
+  go true near e = omega (arith, leb-true r c e)
+  go false true e = omega (arith, leb-false r c e)
+  go false false e = omega (arith, leb-false r c e)

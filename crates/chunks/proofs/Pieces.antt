@@ -1,17 +1,17 @@
 -- What is promised of pieces, for every chunk size of at least 4 (at 3 the pieces of 5 would be 1, 1 and 3).
 -- Assumes nothing.
 use Prim.Native.Nat.{ℕ, zero, suc, _+_, _-_, _*_, _/_, _≤_, _<_}
-use native.Mathlib.Nat.{div-eq-of-lt-le, add-div-right, zero-div}
+use native.Mathlib.Nat.{div-eq-of-lt-le, add-div-right, zero-div, sub-zero, add-zero}
 use native.Mathlib.Omega.{arith}
 use mathlib.Core.Path.{_≡_, refl, sym, ap, _∙_}
 use mathlib.Core.List.{List, [], _∷_}
 use mathlib.Core.Bool.{Bool, true, false, cond}
-use lib.ListN.{length, take}
+use lib.ListN.{length, take, getD}
 use lib.Seq.{take-all}
 use lib.Dec.{leb, ltb}
 use borrow.Author.Tests.{le-leb, lt-leb, leb-true, leb-false, ltb-true, ltb-false}
-use Rattle.chunks.specs.Pieces.{pieces, sum, countOf, startOf}
-use Rattle.chunks.proofs.Laws.{pieces-by, pieces-last}
+use Rattle.chunks.specs.Pieces.{pieceOf, pieces, sum, countOf, startOf}
+use Rattle.chunks.proofs.Laws.{piece-small, piece-near, piece-far, pieces-by, pieces-last}
 
 -- P holds of each element
 abbrev pub Each : (ℕ → Type 0) → List ℕ → Type 0
@@ -100,3 +100,30 @@ module _ (c : ℕ) (four : 4 ≤ c) where
       go false e =
           let h = ltb-false j (countOf c n) e in
           rw (take-all j (pieces c n) (omega (arith, pieces-count n))) (pieces-sum n)
+
+  abbrev Cut : ℕ → List ℕ → Type 0
+  Cut r ls = (j : ℕ) → j < length ls → getD ls j 0 ≡ pieceOf c (r - sum (take j ls))
+
+  cut-small : (r : ℕ) → r ≤ c → Cut r (r ∷ [])
+  unfolding sum
+  cut-small r h zero k = rw (sub-zero, piece-small c r h)
+  cut-small r h (suc j) k = absurd (omega arith)
+
+  cut-near : (r : ℕ) → c < r → r ≤ c + 2 → Cut r ((c - 2) ∷ (r - (c - 2)) ∷ [])
+  unfolding sum
+  cut-near r h k zero l = rw (sub-zero, piece-near c r h k)
+  cut-near r h k (suc zero) l = rw (add-zero, piece-small c (r - (c - 2)) (omega arith))
+  cut-near r h k (suc (suc j)) l = absurd (omega arith)
+
+  cut-far : (r : ℕ) (ls : List ℕ) → c + 2 < r → Cut (r - c) ls → Cut r (c ∷ ls)
+  unfolding sum
+  cut-far r ls h e zero l = rw (sub-zero, piece-far c r h)
+  cut-far r ls h e (suc i) l =
+      let left : r - c - sum (take i ls) ≡ r - (c + sum (take i ls)) = omega arith in
+      e i (omega arith) ∙ ap (pieceOf c) left
+
+  -- the j-th is the next piece of what is left where it starts
+  pub pieces-at : (n j : ℕ) → j < countOf c n → getD (pieces c n) j 0 ≡ pieceOf c (n - startOf c n j)
+  pieces-at n j h =
+      pieces-by c four Cut cut-small cut-near cut-far n j (omega (arith, pieces-count n))
+      ∙ ap (λ (s : ℕ). pieceOf c (n - s)) (pieces-start n j)

@@ -13,8 +13,8 @@ use Rattle.list.specs.Lists.{addressBytes}
 use Rattle.controller.specs.declared.Phase.{Phase}
 use Rattle.controller.specs.declared.Phase.the-variants.{Idle, Writing}
 use Rattle.controller.specs.Model.{Sensor, Run, done, emit, put, runLists}
-use Rattle.plan.specs.Steps.{Before, nothing, after, starts, none, readFollows, stepsFrom}
-use Rattle.plan.specs.Plan.{listsOf}
+use Rattle.turns.specs.Steps.{Before, nothing, after, starts, none, readFollows, stepsFrom}
+use Rattle.turns.specs.Plan.{listsOf}
 use Rattle.demands.specs.Built.{opens, takesIn, shuts, fitsWrite, fitsRead, afterRead}
 use Rattle.demands.proofs.LawsBuilt.{put-append}
 use Rattle.demands.proofs.LawsSteps.{takes-add, pieces-cut, goes, write-pieces, read-pieces}

@@ -22,8 +22,8 @@ use Rattle.list.proofs.Laws.{write-limit-opened, write-listed, read-listed}
 use Rattle.controller.specs.declared.Phase.{Phase}
 use Rattle.controller.specs.declared.Phase.the-variants.{Writing, Reading}
 use Rattle.controller.specs.Model.{Sensor, Run, emit, put, get, Commands, runList, runLists}
-use Rattle.plan.specs.Steps.{Step, writeStep, readStep, writeSteps, readSteps}
-use Rattle.plan.specs.Plan.{builtOf, listOf, listsOf}
+use Rattle.turns.specs.Steps.{Step, writeStep, readStep, writeSteps, readSteps}
+use Rattle.turns.specs.Plan.{builtOf, listOf, listsOf}
 use Rattle.demands.specs.Built.{commandsList, held, opens, takesIn, shuts, fitsWrite, fitsRead, afterRead}
 use Rattle.demands.proofs.Built.{built-write, built-read}
 use Rattle.demands.proofs.LawsBuilt.{put-append, goes-on, held-list, write-fits}

@@ -14,8 +14,8 @@ use Rattle.bus.specs.Traffic.{opening, written, nextByte, received, transferred
 use Rattle.list.specs.Lists.{sentBytes, addressBytes}
 use Rattle.controller.specs.declared.Phase.the-variants.{Idle}
 use Rattle.controller.specs.Model.{Sensor, Run, stuck, refused, done, emit, put, get, runLists, eventsOf, endOf}
-use Rattle.plan.specs.Steps.{nothing, none, stepsFrom}
-use Rattle.plan.specs.Plan.{listsOf, planned}
+use Rattle.turns.specs.Steps.{nothing, none, stepsFrom}
+use Rattle.turns.specs.Plan.{listsOf, planned}
 use Rattle.demands.specs.Built.{takesIn, shuts}
 use Rattle.demands.specs.Plans.{meets, planRun}
 use Rattle.demands.proofs.LawsSteps.{goes}

@@ -16,8 +16,8 @@ use Rattle.controller.specs.declared.inspector.Verdict.the-variants.{Passes}
 use Rattle.controller.specs.Rules.{turn}
 use Rattle.controller.specs.Model.{put, get, obey, runFrom, runList, runLists, eventsOf}
 use Rattle.controller.specs.Verdicts.{willing, verdictOf}
-use Rattle.plan.specs.Steps.{writeSteps, readSteps, stepsFrom}
-use Rattle.plan.specs.Plan.{listsOf, planned}
+use Rattle.turns.specs.Steps.{writeSteps, readSteps, stepsFrom}
+use Rattle.turns.specs.Plan.{listsOf, planned}
 use Rattle.demands.specs.Plans.{meets, planRun}
 use Rattle.demands.specs.Planners.{PutsTraffic, PassesInTurn, ours, refusesAll, emptyList, fixedList, bareStops}
 use Rattle.demands.proofs.LawsTurns.{in-turn-runs}

@@ -8,8 +8,8 @@ use Rattle.bus.specs.Operations.{kept}
 use Rattle.list.specs.Lists.{sentBytes, writeFifo, writeCommands, readFifo, readCommands, padded, listed, unlisted, writeOf, readOf, writeStepOf, readStepOf}
 use Rattle.script.specs.Records.{operationsFrom}
 use Rattle.script.specs.Scripts.{readTotal, bodyOf, scriptOf}
-use Rattle.plan.specs.Steps.{writeSteps, readSteps, stepsFrom}
-use Rattle.plan.specs.Plan.{listsOf, planned}
+use Rattle.turns.specs.Steps.{writeSteps, readSteps, stepsFrom}
+use Rattle.turns.specs.Plan.{listsOf, planned}
 use Rattle.controller.specs.Rules.{turn}
 use Rattle.controller.specs.Model.{put, get, obey, runFrom, runList, inPhase}
 use Rattle.controller.specs.Verdicts.{inspected}

@@ -11,7 +11,7 @@ use Rattle.controller.specs.declared.inspector.Verdict.{Verdict}
 use Rattle.controller.specs.declared.inspector.Verdict.the-variants.{Passes, Refused}
 use Rattle.controller.specs.Model.{Sensor, Commands, runLists, phaseNumber, eventsOf}
 use Rattle.controller.specs.Verdicts.{inspected}
-use Rattle.plan.specs.Plan.{planned}
+use Rattle.turns.specs.Plan.{planned}
 use Rattle.demands.specs.Built.{held}
 
 abbrev pub Planner : Type 0

@@ -6,7 +6,7 @@ use Rattle.bus.specs.Events.{nack, Event, startBit, stopBit, sent, got}
 use Rattle.bus.specs.Operations.{Operation}
 use Rattle.controller.specs.declared.Phase.the-variants.{Idle}
 use Rattle.controller.specs.Model.{Sensor, Run, refused, done, emit, runLists}
-use Rattle.plan.specs.Plan.{planned}
+use Rattle.turns.specs.Plan.{planned}
 use Rattle.demands.specs.Built.{held}
 
 unfoldable pub meets : List Event → List ℕ → ℕ → Run

@@ -13,7 +13,7 @@ use Rattle.list.specs.declared.Answer.the-variants.{Listed, Refused}
 use Rattle.list.specs.declared.CommandList.{CommandList}
 use Rattle.list.specs.Lists.{writeOf, readOf}
 use Rattle.script.specs.Scripts.{Script, asks, refused, scriptOf}
-use Rattle.plan.specs.Plan.{planned}
+use Rattle.turns.specs.Plan.{planned}
 use Rattle.controller.specs.declared.Phase.the-variants.{Idle, Reading}
 use Rattle.controller.specs.declared.inspector.Verdict.the-variants.{Passes}
 use Rattle.controller.specs.declared.inspector.Verdict.the-variants as verdict

@@ -1,7 +1,7 @@
 -- Laws of the walk over a script's records: what stands in front decides what the records are, and a walk that has read so many bytes
 -- goes on after it.
 -- Assumes nothing.
-use Prim.Native.Nat.{ℕ, zero, suc, _+_, _≤_, _<_}
+use Prim.Native.Nat.{ℕ, zero, suc, _+_, _-_, _≤_, _<_}
 use native.Mathlib.Nat.{le-of-suc-le-suc, not-suc-le-zero, add-assoc, add-zero, zero-add}
 use native.Mathlib.Omega.{arith}
 use mathlib.Core.Path.{_≡_, refl, ap, sym, _∙_}
@@ -122,7 +122,7 @@ ahead-read t n none = refl
 ahead-read t n (some os) = rw add-assoc
 
 -- a step of the walk
-module _ (s : List ℕ) (at t : ℕ) (step : Step) (e : step ≡ stepOf s at) where
+module _ (s : List ℕ) (at : ℕ) (step : Step) (e : step ≡ stepOf s at) where
   found : (r : Record) → step .found ≡ r → recordOf (drop at s) ≡ r
   unfolding stepOf
   found r f = sym (ap (λ (st : Step). st .found) e) ∙ f
@@ -143,12 +143,14 @@ module _ (s : List ℕ) (at t : ℕ) (step : Step) (e : step ≡ stepOf s at) wh
       let there = size-there (drop at s) in
       rw e (omega (arith, there, length-drop at s))
 
-  pub walk-end : step .found ≡ End → ahead t (recordsOf (drop at s)) ≡ cond (ltb most t) (Refused Size) (Accepted t)
-  unfolding readTotal
-  walk-end f = rw (in-front End f, add-zero)
+  pub records-end : step .found ≡ End → recordsOf (drop at s) ≡ some []
+  records-end f = in-front End f
 
-  pub walk-bad : step .found ≡ Bad → ahead t (recordsOf (drop at s)) ≡ Refused Shape
-  walk-bad f = rw (in-front Bad f)
+  pub end-next : step .found ≡ End → step .next ≡ at
+  end-next f = next End f ∙ add-zero at
+
+  pub records-bad : step .found ≡ Bad → recordsOf (drop at s) ≡ none
+  records-bad f = in-front Bad f
 
   module _ (n : ℕ) where
     pub write-next : step .found ≡ Write n → step .next ≡ at + 3 + n
@@ -157,14 +159,41 @@ module _ (s : List ℕ) (at t : ℕ) (step : Step) (e : step ≡ stepOf s at) wh
     pub read-next : step .found ≡ Read n → step .next ≡ at + 3
     read-next f = next (Read n) f
 
-    pub walk-write : step .found ≡ Write n → ahead t (recordsOf (drop at s)) ≡ ahead t (recordsOf (drop (step .next) s))
-    walk-write f =
-        ap (ahead t) (in-front (Write n) f)
-        ∙ ahead-write t (take n (drop 3 (drop at s))) (recordsOf (drop n (drop 3 (drop at s))))
-        ∙ ap (λ (l : List ℕ). ahead t (recordsOf l)) (drop-drop n 3 (drop at s) ∙ drop-drop (3 + n) at s ∙ passed (Write n) f)
+    -- a write's bytes end where the next record begins
+    abbrev bytes : List ℕ
+    bytes = take n (drop (step .next - n) s)
 
-    pub walk-read : step .found ≡ Read n → ahead t (recordsOf (drop at s)) ≡ ahead (t + n) (recordsOf (drop (step .next) s))
-    walk-read f =
-        ap (ahead t) (in-front (Read n) f)
-        ∙ ahead-read t n (recordsOf (drop 3 (drop at s)))
-        ∙ ap (λ (l : List ℕ). ahead (t + n) (recordsOf l)) (drop-drop 3 at s ∙ passed (Read n) f)
+    pub records-write :
+        step .found ≡ Write n
+        → recordsOf (drop at s) ≡ Option·map (λ (os : List Operation). write bytes ∷ os) (recordsOf (drop (step .next) s))
+    records-write f =
+        let begins : step .next - n ≡ at + 3 = omega (arith, write-next f) in
+        in-front (Write n) f
+        ∙ rw (drop-drop 3 at s, begins)
+        (ap (λ (l : List ℕ). Option·map (λ (os : List Operation). write (take n (drop (at + 3) s)) ∷ os) (recordsOf l))
+        (drop-drop n (at + 3) s ∙ sym (ap (λ (m : ℕ). drop m s) (write-next f))))
+
+    pub records-read :
+        step .found ≡ Read n
+        → recordsOf (drop at s) ≡ Option·map (λ (os : List Operation). read n ∷ os) (recordsOf (drop (step .next) s))
+    records-read f =
+        in-front (Read n) f
+        ∙ ap (λ (l : List ℕ). Option·map (λ (os : List Operation). read n ∷ os) (recordsOf l))
+        (drop-drop 3 at s ∙ passed (Read n) f)
+
+  -- and the answer of the walk
+  module _ (t : ℕ) where
+    pub walk-end : step .found ≡ End → ahead t (recordsOf (drop at s)) ≡ cond (ltb most t) (Refused Size) (Accepted t)
+    unfolding readTotal
+    walk-end f = rw (records-end f, add-zero)
+
+    pub walk-bad : step .found ≡ Bad → ahead t (recordsOf (drop at s)) ≡ Refused Shape
+    walk-bad f = rw (records-bad f)
+
+    pub walk-write :
+        (n : ℕ) → step .found ≡ Write n → ahead t (recordsOf (drop at s)) ≡ ahead t (recordsOf (drop (step .next) s))
+    walk-write n f = ap (ahead t) (records-write n f) ∙ ahead-write t (bytes n) (recordsOf (drop (step .next) s))
+
+    pub walk-read :
+        (n : ℕ) → step .found ≡ Read n → ahead t (recordsOf (drop at s)) ≡ ahead (t + n) (recordsOf (drop (step .next) s))
+    walk-read n f = ap (ahead t) (records-read n f) ∙ ahead-read t n (recordsOf (drop (step .next) s))

@@ -33,7 +33,7 @@ returns c =
     let l = c .before .before .before .before .loop in
     let step = c .before .before .before .next-record in
     let found = c .before .enum-told .given .1 in
-    sym (rw (lt-ltb 4096 (l .total) (c .if1 .taken)) at (walk-end s (l .at) (l .total) (step .result) (step .ensures) found))
+    sym (rw (lt-ltb 4096 (l .total) (c .if1 .taken)) at (walk-end s (l .at) (step .result) (step .ensures) (l .total) found))
     ∙ l .inv .2
     ∙ ahead-all (recordsOf (drop 3 s))
 
@@ -43,7 +43,7 @@ returns-2 c =
     let l = c .before .before .before .before .loop in
     let step = c .before .before .before .next-record in
     let found = c .before .enum-told .given .1 in
-    sym (rw (le-ltb 4096 (l .total) (c .if1 .left)) at (walk-end s (l .at) (l .total) (step .result) (step .ensures) found))
+    sym (rw (le-ltb 4096 (l .total) (c .if1 .left)) at (walk-end s (l .at) (step .result) (step .ensures) (l .total) found))
     ∙ l .inv .2
     ∙ ahead-all (recordsOf (drop 3 s))
 
@@ -56,7 +56,7 @@ returns-3 c =
     let l = c .before .before .before .loop in
     let step = c .before .before .next-record in
     let found = c .enum-told2 .given .1 in
-    sym (walk-bad s (l .at) (l .total) (step .result) (step .ensures) found) ∙ l .inv .2 ∙ ahead-all (recordsOf (drop 3 s))
+    sym (walk-bad s (l .at) (step .result) (step .ensures) (l .total) found) ∙ l .inv .2 ∙ ahead-all (recordsOf (drop 3 s))
 
 enum-told-3 : tie.Need-enum-told-3 Inv-loop μ-loop
 enum-told-3 c = search needs
@@ -68,8 +68,8 @@ loop-less c =
     let step = c .before .before .next-record in
     let found = c .enum-told3 .given .1 in
     let n = c .enum-told3 .given .0 .0 in
-    let next = write-next s (l .at) (l .total) (step .result) (step .ensures) n found in
-    let inside = walk-inside s (l .at) (l .total) (step .result) (step .ensures) (l .inv .0) in
+    let next = write-next s (l .at) (step .result) (step .ensures) n found in
+    let inside = walk-inside s (l .at) (step .result) (step .ensures) (l .inv .0) in
     omega (arith, next, inside)
 
 loop-again : tie.Need-loop-again Inv-loop μ-loop
@@ -79,10 +79,10 @@ loop-again c =
     let step = c .before .before .next-record in
     let found = c .enum-told3 .given .1 in
     let n = c .enum-told3 .given .0 .0 in
-    let next = write-next s (l .at) (l .total) (step .result) (step .ensures) n found in (
-      walk-inside s (l .at) (l .total) (step .result) (step .ensures) (l .inv .0),
+    let next = write-next s (l .at) (step .result) (step .ensures) n found in (
+      walk-inside s (l .at) (step .result) (step .ensures) (l .inv .0),
       omega (arith, next),
-      sym (walk-write s (l .at) (l .total) (step .result) (step .ensures) n found) ∙ l .inv .2,
+      sym (walk-write s (l .at) (step .result) (step .ensures) (l .total) n found) ∙ l .inv .2,
     )
 
 enum-known-found : tie.Need-enum-known-found Inv-loop μ-loop
@@ -101,8 +101,8 @@ loop-less-2 c =
     let step = c .before .before .before .next-record in
     let found = c .before .found .given .1 in
     let n = c .before .found .given .0 .0 in
-    let next = read-next s (l .at) (l .total) (step .result) (step .ensures) n found in
-    let inside = walk-inside s (l .at) (l .total) (step .result) (step .ensures) (l .inv .0) in
+    let next = read-next s (l .at) (step .result) (step .ensures) n found in
+    let inside = walk-inside s (l .at) (step .result) (step .ensures) (l .inv .0) in
     omega (arith, next, inside)
 
 loop-again-2 : tie.Need-loop-again-2 Inv-loop μ-loop
@@ -112,10 +112,10 @@ loop-again-2 c =
     let step = c .before .before .before .next-record in
     let found = c .before .found .given .1 in
     let n = c .before .found .given .0 .0 in
-    let next = read-next s (l .at) (l .total) (step .result) (step .ensures) n found in (
-      walk-inside s (l .at) (l .total) (step .result) (step .ensures) (l .inv .0),
+    let next = read-next s (l .at) (step .result) (step .ensures) n found in (
+      walk-inside s (l .at) (step .result) (step .ensures) (l .inv .0),
       omega (arith, next),
-      sym (walk-read s (l .at) (l .total) (step .result) (step .ensures) n found) ∙ l .inv .2,
+      sym (walk-read s (l .at) (step .result) (step .ensures) (l .total) n found) ∙ l .inv .2,
     )
 
 pub read-body-spec : {M : Type 1} → statement M

@@ -6,7 +6,7 @@ use mathlib.Core.List.{[], _∷_}
 use lib.ListN.{replicate}
 use Rattle.bus.specs.Operations.{write, read, kept}
 use Rattle.chunks.specs.Pieces.{pieceOf, piecesBy, pieces}
-use Rattle.plan.specs.Steps.{writeStep, readStep, nothing, writeSteps, readSteps, stepsFrom}
+use Rattle.turns.specs.Steps.{writeStep, readStep, nothing, writeSteps, readSteps, stepsFrom}
 
 -- a read of 32 is acknowledged over its first piece, and refused only at its end
 pub read-across-the-fifo :

@@ -8,7 +8,7 @@ use Rattle.list.specs.declared.Answer.the-variants.{Listed, NoList, Refused}
 use Rattle.list.specs.declared.Built.{Built}
 use Rattle.list.specs.declared.CommandList.{CommandList}
 use Rattle.list.specs.Lists.{writeStepOf, readStepOf}
-use Rattle.plan.specs.Steps.{Step, writeStep, readStep, nothing, stepsFrom}
+use Rattle.turns.specs.Steps.{Step, writeStep, readStep, nothing, stepsFrom}
 
 abbrev pub builtOf : ℕ → ℕ → Step → Built
 builtOf f address (writeStep bytes start stop) = writeStepOf f address bytes start stop

@@ -1,0 +1,9 @@
+pub mod LawsOperation
+pub mod LawsKept
+pub mod LawsPlace
+pub mod LawsStanding
+pub mod LawsDeadlines
+pub mod LawsCompletion
+pub mod LawsScript
+pub mod LawsAbandoning
+pub mod LawsTurn
