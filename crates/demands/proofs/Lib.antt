@@ -11,3 +11,10 @@ pub mod LawsTurns
 pub mod Planners
 pub mod Counted
 pub mod Clears
+pub mod LawsRefused
+pub mod Refused
+pub mod Failed
+pub mod LawsListed
+pub mod LawsCourse
+pub mod Course
+pub mod Calls

@@ -19,7 +19,7 @@ use Rattle.controller.specs.Verdicts.{willing, verdictOf}
 use Rattle.turns.specs.Steps.{writeSteps, readSteps, stepsFrom}
 use Rattle.turns.specs.Plan.{listsOf, planned}
 use Rattle.demands.specs.Plans.{meets, planRun}
-use Rattle.demands.specs.Planners.{PutsTraffic, PassesInTurn, ours, refusesAll, emptyList, fixedList, bareStops}
+use Rattle.demands.specs.Planners.{PutsTraffic, PassesInTurn, ours, refusesAll, emptyList, fixedList, bareStops, withoutEmptyWrites, dropsEmptyWrites, nacksEveryPiece, comparesFirst}
 use Rattle.demands.proofs.LawsTurns.{in-turn-runs}
 use Rattle.demands.proofs.Planned.{plan-run, plan-traffic}
 
@@ -67,4 +67,25 @@ pub bare-stops-refuted : PutsTraffic bareStops → ⊥
 unfolding pieceOf piecesBy pieces sentBytes writeFifo writeCommands readFifo readCommands padded listed unlisted writeOf readOf writeStepOf readStepOf writeSteps readSteps stepsFrom listsOf planned meaningOf within turn put get obey runFrom runList runLists eventsOf kept join runs opening written received nextByte transferred onBus traffic cut
 bare-stops-refuted h =
     let same : _≡_ {A = ℕ} 3 6 = ap length (h 0 (write [] ∷ read 1 ∷ []) willing (omega arith)) in
+    absurd (omega arith)
+
+-- a lone empty write: START, the address, STOP
+pub dropped-writes-refuted : PutsTraffic dropsEmptyWrites → ⊥
+unfolding withoutEmptyWrites stepsFrom listsOf planned runLists eventsOf kept join runs opening written transferred onBus traffic cut
+dropped-writes-refuted h =
+    let same : _≡_ {A = ℕ} 0 3 = ap length (h 0 (write [] ∷ []) willing (omega arith)) in
+    absurd (omega arith)
+
+-- a read of 32 goes in pieces of 29 and 3: after a NACK there is no more to read
+pub nacked-pieces-refuted : PutsTraffic nacksEveryPiece → ⊥
+unfolding pieceOf piecesBy pieces sentBytes readFifo readCommands padded listed unlisted readOf readStepOf readSteps stepsFrom listsOf planned meaningOf within turn put get obey runFrom runList runLists eventsOf kept join runs opening written received nextByte transferred onBus traffic cut
+nacked-pieces-refuted h =
+    let same : _≡_ {A = ℕ} 31 35 = ap length (h 0 (read 32 ∷ []) willing (omega arith)) in
+    absurd (omega arith)
+
+-- two writes with an empty read between them are one run: START, the address, STOP
+pub compared-first-refuted : PutsTraffic comparesFirst → ⊥
+unfolding pieceOf piecesBy pieces sentBytes writeFifo writeCommands readFifo readCommands padded listed unlisted writeOf readOf writeStepOf readStepOf writeSteps readSteps stepsFrom listsOf planned meaningOf within turn put get obey runFrom runList runLists eventsOf kept join runs opening written received nextByte transferred onBus traffic cut
+compared-first-refuted h =
+    let same : _≡_ {A = ℕ} 5 3 = ap length (h 0 (write [] ∷ read 0 ∷ write [] ∷ []) willing (omega arith)) in
     absurd (omega arith)

@@ -3,6 +3,7 @@ pub mod Inspectors
 pub mod Built
 pub mod Plans
 pub mod Planners
+pub mod Transactions
 pub mod Tallies
 pub mod Clears
 pub mod Starred

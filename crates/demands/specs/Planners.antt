@@ -1,9 +1,10 @@
 -- What is asked of a planner, and planners that are wrong. A planner gives the lists for an address and operations, in the base's sizes.
 use Prim.Native.Nat.{ℕ, _≤_}
 use mathlib.Core.Path.{_≡_}
+use mathlib.Core.Bool.{false}
 use mathlib.Core.List.{List, [], _∷_, _++_, map}
 use lib.ListN.{take, drop, replicate}
-use Rattle.bus.specs.Operations.{Operation, kept}
+use Rattle.bus.specs.Operations.{Operation, write, read, kept}
 use Rattle.bus.specs.Traffic.{traffic, cut}
 use Rattle.controller.specs.declared.Phase.{Phase}
 use Rattle.controller.specs.declared.Phase.the-variants.{Idle}
@@ -11,7 +12,8 @@ use Rattle.controller.specs.declared.inspector.Verdict.{Verdict}
 use Rattle.controller.specs.declared.inspector.Verdict.the-variants.{Passes, Refused}
 use Rattle.controller.specs.Model.{Sensor, Commands, runLists, phaseNumber, eventsOf}
 use Rattle.controller.specs.Verdicts.{inspected}
-use Rattle.turns.specs.Plan.{planned}
+use Rattle.turns.specs.Steps.{Step, writeStep, readStep, nothing, stepsFrom}
+use Rattle.turns.specs.Plan.{listsOf, planned}
 use Rattle.demands.specs.Built.{held}
 
 abbrev pub Planner : Type 0
@@ -57,3 +59,25 @@ abbrev pub bareStops : Planner
 bareStops address os =
     take 1 (ours address os)
     ++ map (λ (l : Commands). record { words = 0x1000 ∷ replicate 7 0; fifo = [] }) (drop 1 (ours address os))
+
+-- the empty writes are dropped too
+unfoldable pub withoutEmptyWrites : List Operation → List Operation
+withoutEmptyWrites [] = []
+withoutEmptyWrites (write [] ∷ os) = withoutEmptyWrites os
+withoutEmptyWrites (write (b ∷ bytes) ∷ os) = write (b ∷ bytes) ∷ withoutEmptyWrites os
+withoutEmptyWrites (read n ∷ os) = read n ∷ withoutEmptyWrites os
+
+abbrev pub dropsEmptyWrites : Planner
+dropsEmptyWrites address os = ours address (withoutEmptyWrites os)
+
+-- every piece of a read ends with NACK
+abbrev pub ending : Step → Step
+ending (writeStep bytes start stop) = writeStep bytes start stop
+ending (readStep n start stop continues) = readStep n start stop false
+
+abbrev pub nacksEveryPiece : Planner
+nacksEveryPiece address os = map held (listsOf 32 address (map ending (stepsFrom 31 nothing (kept os))))
+
+-- neighbours are compared before the empty reads are dropped
+abbrev pub comparesFirst : Planner
+comparesFirst address os = map held (listsOf 32 address (stepsFrom 31 nothing os))

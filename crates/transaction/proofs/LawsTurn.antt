@@ -20,7 +20,7 @@ use Rattle.outcome.specs.Outcomes.{classifyOf, receivedOf}
 use Rattle.script.specs.Records.{recordsOf}
 use Rattle.script.specs.Scripts.{readTotal}
 use Rattle.turns.specs.Steps.{Step, writeStep, readStep, Before, nothing, after, starts, none, readFollows, writeSteps, readSteps, stepsFrom}
-use Rattle.turns.specs.Turns.{Turn, turn, over, beyond, receives, withList, turnAt}
+use Rattle.turns.specs.Turns.{Turn, turn, over, beyond, receives, withList, turnsOf, turnAt}
 use Rattle.turns.proofs.LawsTurns.{allReceived, with-list-received, received-append, write-received, read-received, turn-received}
 use Rattle.transaction.specs.declared.walk.Found.{Found}
 use Rattle.transaction.specs.declared.walk.Found.the-variants.{Write, Read, Over, Beyond}
@@ -35,7 +35,7 @@ use Rattle.transaction.specs.Walk.{orNone, turnOf, isTurn, Inside, sizeO
 use Rattle.transaction.specs.Calls.{withoutList, handedBy, outOfTurn, turnHanded, keeping, toldBy, turnCompleted, succeeded, laid}
 
 -- all that is received is what the operations read
-received-all : (b : Before) (os : List Operation) → allReceived (stepsFrom 31 b (kept os)) ≡ readTotal os
+pub received-all : (b : Before) (os : List Operation) → allReceived (stepsFrom 31 b (kept os)) ≡ readTotal os
 unfolding allReceived stepsFrom kept readTotal
 received-all b [] = refl
 received-all b (write bytes ∷ os) =
@@ -52,6 +52,10 @@ received-all b (read (suc n) ∷ os) =
       pieces-sum 31 (omega arith) (suc n),
     )
     (ap (λ (m : ℕ). suc n + m) (received-all (after fromSensor) os))
+
+pub turns-received : (os : List Operation) → allReceived (turnsOf 31 os) ≡ readTotal os
+unfolding turnsOf
+turns-received os = with-list-received (stepsFrom 31 nothing (kept os)) ∙ received-all nothing os
 
 -- where a turn's bytes land, there is room for them
 module _ (s : List ℕ) (place : ℕ) where

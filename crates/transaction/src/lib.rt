@@ -99,7 +99,7 @@ pub struct Abandoned {
 }
 
 // A time, or none that 64 bits can tell (13).
-enum Timing {
+pub enum Timing {
     Told(Due),
     OutOfRange,
 }

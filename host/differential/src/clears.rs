@@ -7,7 +7,10 @@ use std::{
 
 use oracle::{Clear, ClearState, Effect, Ending, Sample};
 
-use crate::{question::Question, random::Random};
+use crate::{
+    question::{Question, hex_line},
+    random::Random,
+};
 
 /// One step. `part` 0 asks for the answer and the state, 1 for the wait.
 #[derive(Clone, Copy, Debug)]
@@ -39,36 +42,29 @@ fn state_numbers(state: ClearState) -> [u64; 3] {
 
 impl Question for StepQuestion {
     fn line(&self) -> String {
-        let Self {
-            state,
-            wait,
-            pins,
-            now,
-            sda,
-            part,
-        } = *self;
-        let [kind, n, high] = state_numbers(state);
-        let [pins, sda] = [pins, sda].map(u8::from);
-        format!("a {kind:x} {n:x} {high:x} {wait:x} {pins:x} {now:x} {sda:x} {part:x}")
+        let [kind, n, high] = state_numbers(self.state);
+        hex_line(&[
+            0xa,
+            kind,
+            n,
+            high,
+            self.wait,
+            self.pins.into(),
+            self.now,
+            self.sda.into(),
+            self.part.into(),
+        ])
     }
 
     /// Where the Rust's sum of times overflows it traps, after the pins have moved: 13, and nothing changed.
     fn oracle(&self) -> u64 {
-        let Self {
-            state,
-            wait,
-            pins,
-            now,
-            sda,
-            part,
-        } = *self;
         let mut clear = Clear {
-            state,
-            wait,
-            pins,
+            state: self.state,
+            wait: self.wait,
+            pins: self.pins,
             reset_fsm: false,
         };
-        let polled = catch_unwind(AssertUnwindSafe(|| clear.poll(now, sda)));
+        let polled = catch_unwind(AssertUnwindSafe(|| clear.poll(self.now, self.sda)));
         let answer = match &polled {
             Ok((Poll::Ready(()), _)) => 0,
             Ok((Poll::Pending, effects)) => {
@@ -79,7 +75,7 @@ impl Question for StepQuestion {
             Err(_) => 13 * 256,
         };
         let [kind, n, high] = state_numbers(clear.state);
-        match part {
+        match self.part {
             0 => answer * 262_144 + kind * 65_536 + n * 256 + high,
             _ => clear.wait,
         }
@@ -137,21 +133,20 @@ impl RunQuestion {
 impl Question for RunQuestion {
     /// Ours is handed the Rust's fresh wait, five microseconds after the start, and more polls than the tape has samples.
     fn line(&self) -> String {
-        let Self {
-            seed,
-            start,
-            rare,
-            length,
-            limit,
-            pins,
-            reset,
-            part,
-        } = *self;
-        let wait = if pins { start + 5 } else { start };
-        let [pins, reset] = [pins, reset].map(u8::from);
-        format!(
-            "b {seed:x} {start:x} {rare:x} {length:x} ffff {limit:x} {pins:x} {reset:x} {wait:x} {part:x}"
-        )
+        let wait = self.start + if self.pins { 5 } else { 0 };
+        hex_line(&[
+            0xb,
+            self.seed,
+            self.start,
+            self.rare,
+            self.length as u64,
+            0xffff,
+            self.limit,
+            self.pins.into(),
+            self.reset.into(),
+            wait,
+            self.part.into(),
+        ])
     }
 
     fn oracle(&self) -> u64 {

@@ -4,7 +4,10 @@ use core::task::Poll;
 
 use oracle::{Ack, AcknowledgeCheckFailedReason as Reason, Command, Error, Snapshot};
 
-use crate::{question::Question, random::Random};
+use crate::{
+    question::{Question, hex_line},
+    random::Random,
+};
 
 /// The chunk size of the base variant.
 const CHUNK: usize = 31;
@@ -22,54 +25,69 @@ pub enum Leaf {
     Start(usize, usize),
     /// The word of a command: its kind and count.
     Word(u8, u8),
-    /// What a snapshot means for a list whose poll has or has not succeeded.
-    Outcome {
-        bits: u8,
-        polled: bool,
-        now: u64,
-        due: Option<u64>,
-        commands: [u32; 8],
-    },
+    /// What a snapshot means for its list.
+    Outcome(Observed),
     /// A read of so many bytes for which so many were received.
     Received(u8, u8),
+}
+
+/// A snapshot of a list, whether the list's poll has succeeded, and when it is due.
+#[derive(Clone, Debug)]
+pub struct Observed {
+    pub bits: u8,
+    pub polled: bool,
+    pub now: u64,
+    pub due: Option<u64>,
+    pub commands: [u32; 8],
+}
+
+impl Observed {
+    fn numbers(&self) -> Vec<u64> {
+        let mut numbers = vec![
+            6,
+            self.bits.into(),
+            self.polled.into(),
+            self.due.is_some().into(),
+            self.now,
+            self.due.unwrap_or(0),
+        ];
+        numbers.extend(self.commands.map(u64::from));
+        numbers
+    }
+
+    fn classified(&self) -> u64 {
+        let snapshot = Snapshot::from_bits(self.bits, self.commands, self.now);
+        let polled_now =
+            self.polled || oracle::poll_completion(&snapshot, self.due) == Poll::Ready(Ok(()));
+        let outcome = oracle::classify(&snapshot, self.polled, self.due);
+        numbered(outcome) << 8 | u64::from(polled_now)
+    }
 }
 
 impl Leaf {
     /// An outcome with a random table and clocks around the deadline.
     pub fn random_outcome(random: &mut Random) -> Self {
         let (now, deadline) = random.clocks();
-        Leaf::Outcome {
+        Leaf::Outcome(Observed {
             bits: random.flags(),
             polled: random.chance(2),
             now,
             due: (!random.chance(4)).then_some(deadline),
             commands: random.commands(),
-        }
+        })
     }
 }
 
 impl Question for Leaf {
     fn line(&self) -> String {
+        let chunk = CHUNK as u64;
         match *self {
-            Leaf::Piece(left) => format!("1 {CHUNK:x} {left:x}"),
-            Leaf::Count(n) => format!("2 {CHUNK:x} {n:x}"),
-            Leaf::Start(n, j) => format!("3 {CHUNK:x} {n:x} {j:x}"),
-            Leaf::Word(kind, count) => format!("4 {kind:x} {count:x}"),
-            Leaf::Outcome {
-                bits,
-                polled,
-                now,
-                due,
-                commands,
-            } => {
-                let (kind, time) = (u8::from(due.is_some()), due.unwrap_or(0));
-                let table = commands.map(|word| format!("{word:x}")).join(" ");
-                format!(
-                    "6 {bits:x} {:x} {kind:x} {now:x} {time:x} {table}",
-                    u8::from(polled)
-                )
-            }
-            Leaf::Received(wanted, received) => format!("7 {wanted:x} {received:x}"),
+            Leaf::Piece(left) => hex_line(&[1, chunk, left as u64]),
+            Leaf::Count(n) => hex_line(&[2, chunk, n as u64]),
+            Leaf::Start(n, j) => hex_line(&[3, chunk, n as u64, j as u64]),
+            Leaf::Word(kind, count) => hex_line(&[4, kind.into(), count.into()]),
+            Leaf::Outcome(ref observed) => hex_line(&observed.numbers()),
+            Leaf::Received(wanted, received) => hex_line(&[7, wanted.into(), received.into()]),
         }
     }
 
@@ -79,21 +97,10 @@ impl Question for Leaf {
             Leaf::Count(n) => oracle::pieces(n).len() as u64,
             Leaf::Start(n, j) => oracle::pieces(n)[..j].iter().sum::<usize>() as u64,
             Leaf::Word(kind, count) => oracle::word(command(kind, count)).into(),
-            Leaf::Outcome {
-                bits,
-                polled,
-                now,
-                due,
-                commands,
-            } => {
-                let snapshot = Snapshot::from_bits(bits, commands, now);
-                let polled_now =
-                    polled || oracle::poll_completion(&snapshot, due) == Poll::Ready(Ok(()));
-                number(oracle::classify(&snapshot, polled, due)) << 8 | u64::from(polled_now)
-            }
+            Leaf::Outcome(ref observed) => observed.classified(),
             Leaf::Received(wanted, received) => {
                 let read = oracle::read_all_from_fifo(wanted.into(), &vec![0; received.into()]);
-                number(Poll::Ready(read.map(drop))) >> 8
+                numbered(Poll::Ready(read.map(drop))) >> 8
             }
         }
     }
@@ -121,7 +128,7 @@ fn command(kind: u8, length: u8) -> Command {
 }
 
 /// Document 01's number of an outcome times 256, and its reason.
-fn number(outcome: Poll<Result<(), Error>>) -> u64 {
+pub fn numbered(outcome: Poll<Result<(), Error>>) -> u64 {
     match outcome {
         Poll::Ready(Ok(())) => 0,
         Poll::Pending => PENDING << 8,

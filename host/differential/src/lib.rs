@@ -1,7 +1,8 @@
 //! The Rust original and the proved crates on the same inputs.
 //!
-//! A question is a line of hex numbers that the program `replay` answers with
-//! one number; the oracle's answer to the same question is worked out here.
+//! A question is a line of hex numbers that the program `replay` or `drive`
+//! answers with one number; the oracle's answer to the same question is worked
+//! out here.
 
 mod clears;
 mod fixed;
@@ -10,11 +11,16 @@ mod lists;
 mod program;
 mod question;
 mod random;
+mod scripts;
+mod told;
+mod transactions;
 
 pub use clears::{RunQuestion, StepQuestion};
 pub use fixed::fixed_list;
-pub use leaves::Leaf;
+pub use leaves::{Leaf, Observed};
 pub use lists::{Kind, ListQuestion, PARTS};
-pub use program::committed;
+pub use program::{committed, run};
 pub use question::{Question, disagreements};
 pub use random::Random;
+pub use scripts::{Starts, operations, read_total, with_body, written};
+pub use transactions::{Moment, Odd, Short, Transaction};

@@ -2,7 +2,7 @@
 
 use oracle::{Deadline, Error, List};
 
-use crate::question::Question;
+use crate::question::{Question, hex_line};
 
 /// A list is asked for number by number: the answer, eight words, the count of FIFO bytes, and 32 of those.
 pub const PARTS: usize = 1 + 8 + 1 + 32;
@@ -121,25 +121,20 @@ fn refusal(error: Error) -> u64 {
 
 impl Question for ListQuestion {
     fn line(&self) -> String {
-        let Self {
-            kind,
-            step,
-            address,
-            n,
-            start,
-            stop,
-            part,
-        } = *self;
-        let [step, start, stop] = [step, start, stop].map(u8::from);
-        match kind {
-            Kind::Write => format!("8 {step:x} {address:x} {n:x} {start:x} {stop:x} 0 {part:x}"),
-            Kind::Read { continues } => {
-                format!(
-                    "9 {step:x} {address:x} {n:x} {start:x} {stop:x} {:x} {part:x}",
-                    u8::from(continues)
-                )
-            }
-        }
+        let (asked, continues) = match self.kind {
+            Kind::Write => (8, false),
+            Kind::Read { continues } => (9, continues),
+        };
+        hex_line(&[
+            asked,
+            self.step.into(),
+            self.address.into(),
+            self.n as u64,
+            self.start.into(),
+            self.stop.into(),
+            continues.into(),
+            self.part as u64,
+        ])
     }
 
     fn oracle(&self) -> u64 {

@@ -5,20 +5,26 @@ use core::fmt::Debug;
 use crate::program;
 
 pub trait Question: Debug {
-    /// The line that `replay` reads.
+    /// The line that the program reads.
     fn line(&self) -> String;
 
-    /// What the Rust original answers, as the number that `replay` prints.
+    /// What the Rust original answers, as the number that the program prints.
     fn oracle(&self) -> u64;
 }
 
+/// Numbers in hex with one space between them.
+pub fn hex_line(numbers: &[u64]) -> String {
+    let words: Vec<String> = numbers.iter().map(|number| format!("{number:x}")).collect();
+    words.join(" ")
+}
+
 /// Asks both sides, and lists the first questions to which the answers differ.
-pub fn disagreements(questions: &[impl Question]) -> Vec<String> {
+pub fn disagreements(program: &str, questions: &[impl Question]) -> Vec<String> {
     let asked: String = questions
         .iter()
         .map(|question| question.line() + "\n")
         .collect();
-    let answered = program::run("replay", &asked);
+    let answered = program::run(program, &asked);
     let answers: Vec<&str> = answered.lines().collect();
     assert_eq!(
         answers.len(),

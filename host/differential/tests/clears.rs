@@ -45,7 +45,7 @@ fn steps_agree_from_every_state() {
         }
     }
     assert_eq!(questions.len(), 514 * 6 * 8);
-    let found = quietly(|| disagreements(&questions));
+    let found = quietly(|| disagreements("replay", &questions));
     assert!(found.is_empty(), "{}", found.join("\n"));
 }
 
@@ -60,6 +60,6 @@ fn runs_agree_on_a_hundred_thousand_random_tapes() {
             RunQuestion { part: 1, ..run },
         ]);
     }
-    let found = disagreements(&questions);
+    let found = disagreements("replay", &questions);
     assert!(found.is_empty(), "{}", found.join("\n"));
 }

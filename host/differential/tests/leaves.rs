@@ -1,9 +1,9 @@
 //! The leaf crates against the Rust original.
 
-use differential::{Leaf, Random, disagreements};
+use differential::{Leaf, Observed, Random, disagreements};
 
 fn assert_agreement(questions: &[Leaf]) {
-    let found = disagreements(questions);
+    let found = disagreements("replay", questions);
     assert!(found.is_empty(), "{}", found.join("\n"));
 }
 
@@ -32,7 +32,7 @@ fn reads_are_cut_as_writes_are() {
 /// difference on these questions, and so what shows that a disagreement is found.
 #[test]
 fn no_bytes_are_one_empty_piece() {
-    let found = disagreements(&[Leaf::Piece(0), Leaf::Count(0)]);
+    let found = disagreements("replay", &[Leaf::Piece(0), Leaf::Count(0)]);
     assert_eq!(found, ["Count(0): the Rust 0, ours 0000000000000001"]);
 }
 
@@ -67,13 +67,13 @@ fn outcomes_agree_for_all_bits_and_clock_relations() {
         for bits in 0..=255 {
             for polled in [false, true] {
                 for due in [None, Some(1001), Some(1000), Some(999)] {
-                    questions.push(Leaf::Outcome {
+                    questions.push(Leaf::Outcome(Observed {
                         bits,
                         polled,
                         now: 1000,
                         due,
                         commands,
-                    });
+                    }));
                 }
             }
         }

@@ -1,10 +1,11 @@
-//! The fixed list of questions that `replay` answers without Rust.
+//! Questions to the leaf crates, the builder and the bus clear.
 
 use oracle::ClearState;
 
+use super::boxed;
 use crate::{Leaf, ListQuestion, Question, Random, RunQuestion, StepQuestion};
 
-pub fn fixed_list() -> Vec<Box<dyn Question>> {
+pub fn questions() -> Vec<Box<dyn Question>> {
     let leaves = pieces().into_iter().chain(words()).chain(outcomes());
     let mut questions: Vec<Box<dyn Question>> = Vec::new();
     questions.extend(leaves.map(boxed));
@@ -12,10 +13,6 @@ pub fn fixed_list() -> Vec<Box<dyn Question>> {
     questions.extend(steps().into_iter().map(boxed));
     questions.extend(runs().into_iter().map(boxed));
     questions
-}
-
-fn boxed(question: impl Question + 'static) -> Box<dyn Question> {
-    Box::new(question)
 }
 
 fn pieces() -> Vec<Leaf> {
