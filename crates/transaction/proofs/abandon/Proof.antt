@@ -9,7 +9,7 @@ use borrow.Author.Needs.{needs}
 use Rattle.transaction.proofs.abandon.Statement.{statement}
 use Rattle.transaction.proofs.abandon.Tie as tie
 use Rattle.outcome.proofs.poll_completion.Reads as poll-completion-reads
-use Rattle.transaction.proofs.fail.Reads as fail-reads
+use Rattle.transaction.proofs.completing.fail.Reads as fail-reads
 use Rattle.transaction.proofs.may_run.Reads as may-run-reads
 
 returns : tie.Need-returns

@@ -7,7 +7,7 @@ use Rattle.transaction.proofs.begin.Statement.{statement}
 use Rattle.transaction.proofs.begin.Tie as tie
 use Rattle.script.proofs.read_script.Reads as read-script-reads
 use Rattle.transaction.proofs.accept.Reads as accept-reads
-use Rattle.transaction.proofs.fixed_due.Reads as fixed-due-reads
+use Rattle.transaction.proofs.deadlines.fixed_due.Reads as fixed-due-reads
 
 read-script-requires : tie.Need-read-script-requires
 read-script-requires c κs = search needs

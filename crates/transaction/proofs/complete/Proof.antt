@@ -6,8 +6,8 @@ use borrow.Author.Needs.{needs}
 use Rattle.transaction.proofs.complete.Statement.{statement}
 use Rattle.transaction.proofs.complete.Tie as tie
 use Rattle.script.proofs.read_script.Reads as read-script-reads
-use Rattle.transaction.proofs.complete_turn.Reads as complete-turn-reads
-use Rattle.transaction.proofs.refuse.Reads as refuse-reads
+use Rattle.transaction.proofs.completing.complete_turn.Reads as complete-turn-reads
+use Rattle.transaction.proofs.completing.refuse.Reads as refuse-reads
 
 read-script-requires : tie.Need-read-script-requires
 read-script-requires c κs = search needs

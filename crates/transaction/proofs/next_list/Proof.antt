@@ -6,8 +6,8 @@ use borrow.Author.Needs.{needs}
 use Rattle.transaction.proofs.next_list.Statement.{statement}
 use Rattle.transaction.proofs.next_list.Tie as tie
 use Rattle.script.proofs.read_script.Reads as read-script-reads
-use Rattle.transaction.proofs.hand_turn.Reads as hand-turn-reads
-use Rattle.transaction.proofs.without_list.Reads as without-list-reads
+use Rattle.transaction.proofs.next.hand_turn.Reads as hand-turn-reads
+use Rattle.transaction.proofs.next.without_list.Reads as without-list-reads
 
 read-script-requires : tie.Need-read-script-requires
 read-script-requires c κs = search needs
