@@ -1,0 +1,80 @@
+-- Laws of numbers in byte slices, for citing.
+-- Assumes nothing.
+use Prim.Native.Nat.{ℕ, zero, suc, _+_, _-_, _*_, _/_, _%_, _≤_, _<_}
+use native.Mathlib.Nat.{add-assoc, add-zero, zero-add}
+use native.Mathlib.Numerals.{add-one}
+use native.Mathlib.Omega.{arith}
+use mathlib.Core.Path.{_≡_, refl, sym, ap, _∙_}
+use mathlib.Core.Bool.{cond}
+use mathlib.Core.List.{List, [], _∷_, _++_}
+use lib.ListN.{length, take, drop, set, getD, length-append}
+use lib.Dec.{leb}
+use lib.Seq.{sets, sets-eq, paste, paste-suc, take-all, drop-cons}
+use borrow.Author.Tests.{le-leb, lt-leb}
+use Rattle.wire.specs.Numbers.{fourBytes, wordBytes, timeBytes, wordAt, timeAt}
+
+-- a word's bytes, one after another
+pub stored : (l : List ℕ) (at a b c d : ℕ) → set (set (set (set l at a) (at + 1) b) (at + 2) c) (at + 3) d ≡ sets l at (a ∷ b ∷ c ∷ d ∷ [])
+stored l at a b c d =
+    let one : at + 1 ≡ suc at = omega arith in
+    let two : at + 2 ≡ suc (suc at) = omega arith in
+    let three : at + 3 ≡ suc (suc (suc at)) = omega arith in
+    rw (one, two, three)
+
+pub sets-append : (xs ys l : List ℕ) (at : ℕ) → sets (sets l at xs) (at + length xs) ys ≡ sets l at (xs ++ ys)
+sets-append [] ys l at = rw add-zero
+sets-append (x ∷ xs) ys l at =
+    let further : at + suc (length xs) ≡ suc at + length xs = omega arith in
+    rw further (sets-append xs ys (set l at x) (suc at))
+
+-- stored from a place on, as a copy
+pub stored-all : (vs l : List ℕ) (at : ℕ) → at + length vs ≤ length l → sets l at vs ≡ paste l at vs (length vs)
+stored-all vs l at h = sets-eq vs l at h ∙ rw (take-all (length vs) vs (omega arith))
+
+pub word-size : (words : List ℕ) → length (wordBytes words) ≡ length words * 4
+unfolding wordBytes
+word-size [] = refl
+word-size (w ∷ words) = length-append (fourBytes w) (wordBytes words) ∙ rw (word-size words) (omega arith)
+
+-- eight words, word by word: what is left gives the whole answer
+pub word-stored :
+    (words l : List ℕ) (i : ℕ)
+    → i < length words
+    → sets (sets l (i * 4) (fourBytes (getD words i 0))) ((i + 1) * 4) (wordBytes (drop (i + 1) words)) ≡ sets l (i * 4) (wordBytes (drop i words))
+unfolding wordBytes
+word-stored words l i h =
+    let further : (i + 1) * 4 ≡ i * 4 + 4 = omega arith in
+    rw (further, add-one i, drop-cons words i 0)
+    (sets-append (fourBytes (getD words i 0)) (wordBytes (drop (suc i) words)) l (i * 4))
+
+-- a word, read byte by byte
+pub word-read :
+    (l : List ℕ) (at k a b c d : ℕ)
+    → a ≡ getD l (at + k) 0
+    → b ≡ getD l (at + (k + 1)) 0
+    → c ≡ getD l (at + (k + 2)) 0
+    → d ≡ getD l (at + (k + 3)) 0
+    → a * 0x1000000 + b * 0x10000 + c * 0x100 + d ≡ wordAt l (at + k)
+unfolding wordAt
+word-read l at k a b c d p q r s = rw (p, q, r, s, add-assoc at k 1, add-assoc at k 2, add-assoc at k 3)
+
+-- where there is no room, nothing; where there is, the bytes
+module _ (at n : ℕ) (l vs : List ℕ) where
+  pub no-room : length l < at + n → l ≡ cond (leb (at + n) (length l)) (paste l at vs n) l
+  no-room h = rw (lt-leb (at + n) (length l) h)
+
+  pub put : length vs ≡ n → at + n ≤ length l → sets l at vs ≡ cond (leb (at + n) (length l)) (paste l at vs n) l
+  put e h = stored-all vs l at (omega (arith, e)) ∙ rw (le-leb (at + n) (length l) h, e)
+
+-- one byte more is copied
+pub copied :
+    (d r out : List ℕ) (i : ℕ)
+    → i < length d
+    → i < length r
+    → out ≡ paste d 0 r i
+    → set out i (getD r i 0) ≡ paste d 0 r (i + 1)
+copied d r out i h k e =
+    ap (λ (l : List ℕ). set l i (getD r i 0)) e
+    ∙ ap (λ (j : ℕ). set (paste d 0 r i) j (getD r i 0)) (sym (zero-add i))
+    ∙ paste-suc d 0 r i 0 (rw (zero-add i) h) k
+    ∙ ap (paste d 0 r) (sym (add-one i))

@@ -1,0 +1,2 @@
+-- What a reader must believe of numbers in byte slices.
+pub mod Numbers
