@@ -19,7 +19,7 @@ use Rattle.turns.specs.Turns.{withList, turnsOf, turnAt}
 use Rattle.transaction.specs.declared.Settings.{Settings}
 use Rattle.transaction.specs.declared.Progress.{Progress}
 use Rattle.transaction.specs.declared.Deadline.the-variants.{None}
-use Rattle.transaction.specs.Calls.{accepted, awaiting, beginOf, nextOf, completeOf, bufferOf, abandonOf}
+use Rattle.transaction.specs.Calls.{accepted, awaiting, beginOf, nextOf, completeOf, abandonOf}
 use Rattle.demands.proofs.LawsRefused.{abandoned}
 use Rattle.demands.specs.Transactions.{Later, nexts, Round, Course, course, gathered, noneListed, FailedEnds, HandsOutPlan, goesOnAfterFailure, landsInFront}
 

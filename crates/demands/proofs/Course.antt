@@ -1,13 +1,13 @@
 -- Begin, then next list and completion in turn with successful snapshots, hand out exactly the plan's lists in order, then none is left;
 -- the read buffer holds the received bytes in order, and its old contents beyond.
 -- Assumes nothing.
-use Prim.Native.Nat.{ℕ, zero, suc, _+_, _-_, _≤_, _<_}
+use Prim.Native.Nat.{ℕ, _+_, _-_, _≤_, _<_}
 use native.Mathlib.Nat.{zero-add, add-zero}
 use native.Mathlib.Omega.{arith}
 use mathlib.Core.Path.{_≡_, refl, sym, ap, _∙_}
 use mathlib.Core.Bool.{Bool, true, false, cond, false≢true}
 use mathlib.Core.List.{List, [], _∷_, _++_, map, append-assoc, append-nil}
-use lib.ListN.{length, take, drop, length-append}
+use lib.ListN.{length, take, length-append}
 use lib.Seq.{length-take-le}
 use lib.Dec.{ltb}
 use borrow.Author.Tests.{ltb-false}
@@ -18,8 +18,7 @@ use Rattle.list.specs.declared.Built.{Built}
 use Rattle.list.specs.declared.CommandList.{CommandList}
 use Rattle.script.specs.Scripts.{asks, readTotal, scriptOf}
 use Rattle.turns.specs.Steps.{Step}
-use Rattle.turns.specs.Plan.{builtOf, planned}
-use Rattle.turns.specs.Turns.{turn, over, carries, receives, turnsOf, turnAt}
+use Rattle.turns.specs.Turns.{turn, carries, receives, turnsOf, turnAt}
 use Rattle.turns.proofs.LawsTurns.{allReceived, received-append, turn-past}
 use Rattle.transaction.specs.declared.Settings.{Settings}
 use Rattle.transaction.specs.declared.Progress.{Progress}

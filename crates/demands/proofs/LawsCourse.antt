@@ -1,14 +1,13 @@
 -- Laws of a transaction that goes well: what one round does to the record and to the read buffer.
 -- Assumes nothing.
-use Prim.Native.Nat.{ℕ, zero, suc, _+_, _-_, _≤_, _<_}
+use Prim.Native.Nat.{ℕ, _+_, _-_, _≤_, _<_}
 use native.Mathlib.Omega.{arith}
 use mathlib.Core.Path.{_≡_, refl, sym, ap, _∙_}
-use mathlib.Core.Bool.{Bool, true, false, cond, not, false≢true}
-use mathlib.Core.List.{List, [], _∷_, _++_, append-assoc}
+use mathlib.Core.Bool.{Bool, true, false, false≢true}
+use mathlib.Core.List.{List, [], _∷_, _++_}
 use lib.ListN.{length, take, drop, length-drop, length-append}
 use lib.Seq.{paste, take-append-seam, drop-append-add, drop-drop, length-take-le}
-use lib.Dec.{ltb}
-use borrow.Author.Tests.{le-ltb, ltb-false}
+use borrow.Author.Tests.{le-ltb}
 use Rattle.bus.specs.Operations.{Operation}
 use Rattle.outcome.specs.declared.Due.{Due}
 use Rattle.outcome.specs.declared.Due.the-variants.{Never}
@@ -16,7 +15,7 @@ use Rattle.outcome.specs.declared.Outcome.{Outcome}
 use Rattle.outcome.specs.declared.Outcome.the-variants.{Pending, Done, Failed}
 use Rattle.outcome.specs.declared.Snapshot.{Snapshot}
 use Rattle.outcome.specs.declared.Classified.{Classified}
-use Rattle.outcome.specs.Outcomes.{classifyOf, receivedOf, succeeds}
+use Rattle.outcome.specs.Outcomes.{classifyOf, succeeds}
 use Rattle.list.specs.declared.Built.{Built}
 use Rattle.script.specs.Scripts.{asks, readTotal, scriptOf}
 use Rattle.turns.specs.Steps.{Step}

@@ -1,20 +1,19 @@
 -- Laws of refused calls: each hands the record back as it was.
 -- Assumes nothing.
 use Prim.Native.Nat.{ℕ}
-use mathlib.Core.Path.{_≡_, refl, sym, ap, _∙_}
+use mathlib.Core.Path.{_≡_, refl, sym, _∙_}
 use mathlib.Core.Bool.{Bool, true, false, cond, not, _&&_, false≢true}
 use mathlib.Core.List.{List, [], _∷_}
-use lib.ListN.{length}
 use lib.Dec.{ltb}
 use Rattle.refusal.specs.declared.Refusal.{Refusal}
-use Rattle.refusal.specs.declared.Refusal.the-variants.{Shape, Room, OutOfTurn, ClockRange}
+use Rattle.refusal.specs.declared.Refusal.the-variants.{Shape, Room, OutOfTurn}
 use Rattle.outcome.specs.declared.Outcome.{Outcome}
 use Rattle.outcome.specs.declared.Outcome.the-variants.{Pending, Done, Failed}
 use Rattle.outcome.specs.declared.Snapshot.{Snapshot}
 use Rattle.outcome.specs.declared.Classified.{Classified}
 use Rattle.outcome.specs.Outcomes.{pollOf, classifyOf, receivedOf}
 use Rattle.list.specs.declared.CommandList.{CommandList}
-use Rattle.script.specs.Scripts.{Script, asks, refused, readTotal, scriptOf}
+use Rattle.script.specs.Scripts.{Script, asks, refused, readTotal}
 use Rattle.turns.specs.Plan.{builtOf}
 use Rattle.turns.specs.Turns.{Turn, turn, over, beyond, carries, receives, turnsOf, turnAt}
 use Rattle.transaction.specs.declared.Settings.{Settings}
@@ -34,7 +33,7 @@ use Rattle.transaction.specs.declared.Abandoned.{Abandoned}
 use Rattle.transaction.specs.declared.Timing.{Timing}
 use Rattle.transaction.specs.declared.Timing.the-variants.{Told, OutOfRange}
 use Rattle.transaction.specs.Deadlines.{fixedOf, dueOf}
-use Rattle.transaction.specs.Calls.{acceptedBy, begunBy, beginOf, noList, withoutList, handedBy, outOfTurn, turnHanded, nextBy, nextOf, keeping, failing, landedBy, toldAs, turnCompleted, completeBy, completeOf, succeeded, bufferOf, resets, abandonOf}
+use Rattle.transaction.specs.Calls.{acceptedBy, begunBy, noList, withoutList, handedBy, outOfTurn, turnHanded, nextBy, keeping, failing, landedBy, toldAs, turnCompleted, completeBy, resets, abandonOf}
 
 -- is it a refusal?
 abbrev pub begins : Beginning → Bool

@@ -181,19 +181,40 @@ module _ (s : List ℕ) (at : ℕ) (step : Step) (e : step ≡ stepOf s at) wher
         ∙ ap (λ (l : List ℕ). Option·map (λ (os : List Operation). read n ∷ os) (recordsOf l))
         (drop-drop 3 at s ∙ passed (Read n) f)
 
-  -- and the answer of the walk
-  module _ (t : ℕ) where
-    pub walk-end : step .found ≡ End → ahead t (recordsOf (drop at s)) ≡ cond (ltb most t) (Refused Size) (Accepted t)
-    unfolding readTotal
-    walk-end f = rw (records-end f, add-zero)
+-- what a step of the walk says of the answer, when t bytes have been read
+pub record Walked (s : List ℕ) (at t : ℕ) (step : Step) : Type 0 where
+  pub inside : at ≤ length s → step .next ≤ length s
+  pub ends : step .found ≡ End → ahead t (recordsOf (drop at s)) ≡ cond (ltb most t) (Refused Size) (Accepted t)
+  pub is-bad : step .found ≡ Bad → ahead t (recordsOf (drop at s)) ≡ Refused Shape
+  pub passes-write :
+      (n : ℕ)
+      → step .found ≡ Write n
+      → (step .next ≡ at + 3 + n) × (ahead t (recordsOf (drop at s)) ≡ ahead t (recordsOf (drop (step .next) s)))
+  pub passes-read :
+      (n : ℕ)
+      → step .found ≡ Read n
+      → (step .next ≡ at + 3) × (ahead t (recordsOf (drop at s)) ≡ ahead (t + n) (recordsOf (drop (step .next) s)))
 
-    pub walk-bad : step .found ≡ Bad → ahead t (recordsOf (drop at s)) ≡ Refused Shape
-    walk-bad f = rw (records-bad f)
+module _ (s : List ℕ) (at t : ℕ) (step : Step) (e : step ≡ stepOf s at) where
+  walk-end : step .found ≡ End → ahead t (recordsOf (drop at s)) ≡ cond (ltb most t) (Refused Size) (Accepted t)
+  unfolding readTotal
+  walk-end f = rw (records-end s at step e f, add-zero)
 
-    pub walk-write :
-        (n : ℕ) → step .found ≡ Write n → ahead t (recordsOf (drop at s)) ≡ ahead t (recordsOf (drop (step .next) s))
-    walk-write n f = ap (ahead t) (records-write n f) ∙ ahead-write t (bytes n) (recordsOf (drop (step .next) s))
+  abbrev left : Option (List Operation)
+  left = recordsOf (drop (step .next) s)
 
-    pub walk-read :
-        (n : ℕ) → step .found ≡ Read n → ahead t (recordsOf (drop at s)) ≡ ahead (t + n) (recordsOf (drop (step .next) s))
-    walk-read n f = ap (ahead t) (records-read n f) ∙ ahead-read t n (recordsOf (drop (step .next) s))
+  pub walked : Walked s at t step
+  walked =
+      record {
+        inside = walk-inside s at step e;
+        ends = walk-end;
+        is-bad = λ f. rw (records-bad s at step e f);
+        passes-write = λ n f. (
+          write-next s at step e n f,
+          ap (ahead t) (records-write s at step e n f) ∙ ahead-write t (take n (drop (step .next - n) s)) left,
+        );
+        passes-read = λ n f. (
+          read-next s at step e n f,
+          ap (ahead t) (records-read s at step e n f) ∙ ahead-read t n left,
+        );
+      }

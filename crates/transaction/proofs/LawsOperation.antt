@@ -14,9 +14,9 @@ use Rattle.bus.specs.Operations.{Operation, write, read}
 use Rattle.chunks.specs.Pieces.{pieceOf, pieces, countOf, startOf}
 use Rattle.chunks.proofs.Laws.{pieces-last, piece-most, start-most}
 use Rattle.chunks.proofs.Pieces.{pieces-sum, pieces-count, pieces-start, pieces-at}
-use Rattle.turns.specs.Steps.{Step, writeStep, readStep, Before, after, starts, none, readFollows, writeSteps, readSteps, stepsFrom}
+use Rattle.turns.specs.Steps.{Step, writeStep, readStep, Before, starts, none, writeSteps}
 use Rattle.turns.specs.Turns.{withList, turn, turnAt}
-use Rattle.turns.proofs.LawsTurns.{allReceived, with-list-append, turn-here, turn-past, write-turn, read-turn, pieces-some, write-listed, read-listed, write-received, read-received, write-count, read-count}
+use Rattle.turns.proofs.LawsTurns.{write-turn, read-turn, pieces-some, write-listed, read-listed, write-count, read-count}
 use Rattle.transaction.specs.declared.walk.Kept.{Kept}
 use Rattle.transaction.specs.declared.walk.Flags.{Flags}
 use Rattle.transaction.specs.Walk.{Sound, operationAt, pieceFlags, stepsFor, Sized}
@@ -190,6 +190,25 @@ sized s k sound inside = go (k .reads) refl where
       rw (length-drop (k .next - k .length) s) (omega (arith, sound .1 e)) in
       sym (length-take-le (k .length) (drop (k .next - k .length) s) there)
 
+-- what is known of the piece at a place: where it starts, its size and its flags
+pub record Cut (ahead : Kept) (flags : Flags) (at landing start size : ℕ) (own : Flags) : Type 0 where
+  pub starts-inside : start ≤ ahead .length
+  pub ends-inside : start + size ≤ ahead .length
+  pub fits : size ≤ 31
+  pub is-read :
+      (s : List ℕ)
+      → ahead .reads ≡ true
+      → at < countOf 31 (ahead .length)
+      → turn (readStep size (own .start) (own .stop) (own .continues)) (landing + start)
+      ≡ turnAt landing at (withList (stepsFor (operationAt s ahead) flags))
+  pub is-write :
+      (s : List ℕ)
+      → ahead .reads ≡ false
+      → ahead .next ≤ length s
+      → at < length (withList (stepsFor (operationAt s ahead) flags))
+      → turn (writeStep (take size (drop (ahead .next - ahead .length + start) s)) (own .start) (own .stop)) landing
+      ≡ turnAt landing at (withList (stepsFor (operationAt s ahead) flags))
+
 module _
     (ahead : Kept) (flags : Flags) (at landing : ℕ) (sound : Sound ahead)
     (start size all : ℕ) (own : Flags)
@@ -199,10 +218,10 @@ module _
     abbrev n : ℕ
     n = ahead .length
 
-    pub start-inside : start ≤ n
+    start-inside : start ≤ n
     start-inside = rw e-start (start-most 31 n at)
 
-    pub piece-inside : (start + size ≤ n) × (size ≤ 31)
+    piece-inside : (start + size ≤ n) × (size ≤ 31)
     piece-inside = let most = piece-most 31 (n - start) in (omega (arith, e-size, most, start-inside), omega (arith, e-size, most))
 
     module _ (s : List ℕ) where
@@ -212,14 +231,14 @@ module _
       abbrev steps : List Step
       steps = withList (stepsFor (operationAt s ahead) flags)
 
-      pub read-found :
+      read-found :
           ahead .reads ≡ true
           → at < countOf 31 n
           → turn (readStep size (own .start) (own .stop) (own .continues)) (landing + start) ≡ turnAt landing at steps
       read-found r h =
           rw (e-own, e-all, e-size, e-start, r, add-one at) (sym (read-piece landing flags n at (sound .2 r) h))
 
-      pub write-found :
+      write-found :
           ahead .reads ≡ false
           → ahead .next ≤ length s
           → at < length steps
@@ -230,3 +249,13 @@ module _
           let place : at < length (withList (stepsFor (write bytes) flags)) = rw r at h in
           rw (part-of-part (ahead .next - n) n start size s (piece-inside .0), e-own, e-all, e-size, e-start, r, add-one at)
           (sym (rw whole at (write-piece landing flags bytes at place)))
+
+    pub cut : Cut ahead flags at landing start size own
+    cut =
+        record {
+          starts-inside = start-inside;
+          ends-inside = piece-inside .0;
+          fits = piece-inside .1;
+          is-read = read-found;
+          is-write = write-found;
+        }

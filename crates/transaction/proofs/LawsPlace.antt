@@ -1,16 +1,15 @@
 -- Laws of a walk from operation to operation: its flags, and what is found at a place.
 -- Assumes nothing.
-use Prim.Native.Nat.{ℕ, zero, suc, _+_, _-_, _≤_, _<_}
+use Prim.Native.Nat.{ℕ, _+_, _-_, _≤_, _<_}
 use native.Mathlib.Omega.{arith}
-use mathlib.Core.Path.{_≡_, refl, sym, ap, _∙_}
+use mathlib.Core.Path.{_≡_, refl, ap, _∙_}
 use mathlib.Core.Bool.{Bool, true, false, cond, not, _&&_, false≢true}
 use mathlib.Core.List.{List, [], _∷_, _++_}
 use lib.ListN.{length, take, drop}
-use Rattle.bus.specs.Events.{toSensor, fromSensor}
 use Rattle.bus.specs.Operations.{Operation, write, read}
 use Rattle.chunks.specs.Pieces.{pieces}
 use Rattle.chunks.proofs.Pieces.{pieces-sum}
-use Rattle.turns.specs.Steps.{Step, Before, nothing, after, starts, none, readFollows, writeSteps, readSteps, stepsFrom}
+use Rattle.turns.specs.Steps.{Step, Before, nothing, after, starts, none, readFollows, stepsFrom}
 use Rattle.turns.specs.Turns.{withList, Turn, turnAt}
 use Rattle.turns.proofs.LawsTurns.{allReceived, with-list-append, with-list-received, turn-here, turn-past, write-received, read-received}
 use Rattle.transaction.specs.declared.walk.Kept.{Kept}

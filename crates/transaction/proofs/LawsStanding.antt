@@ -2,10 +2,10 @@
 -- Assumes nothing.
 use Prim.Native.Nat.{ℕ, zero, suc, _+_, _-_, _*_, _≤_, _<_}
 use native.Mathlib.Omega.{arith}
-use mathlib.Core.Path.{_≡_, refl, sym, ap, _∙_}
+use mathlib.Core.Path.{_≡_, refl, sym, _∙_}
 use mathlib.Core.Bool.{Bool, true, false, cond, not, false≢true}
 use mathlib.Core.List.{List, [], _∷_}
-use lib.ListN.{length, take, drop}
+use lib.ListN.{length, drop}
 use Rattle.bus.specs.Operations.{Operation}
 use Rattle.chunks.specs.Pieces.{countOf}
 use Rattle.turns.specs.Steps.{stepsFrom}
@@ -58,6 +58,20 @@ module _ (s : List ℕ) (place : ℕ) where
     rw (e, ← seen .0),
   )
 
+  -- what is known where a walk stands before an operation that has so many lists, and sees what follows
+  pub record Onward (ahead following : Kept) (flags : Flags) (lists left landing : ℕ) : Type 0 where
+    pub lists-are : lists ≡ length (withList (stepsFor (operationAt s ahead) flags))
+    pub here : left < lists → turnAt landing left (withList (stepsFor (operationAt s ahead) flags)) ≡ turnIn s place
+    pub less : 2 * (length s - following .next) + cond (following .there) 1 0 < 2 * (length s - ahead .next) + cond (ahead .there) 1 0
+    pub bound : left < lists → place < 1073741824
+    pub lands : landing + 65535 ≤ 1073741824
+    pub receives-few : (received : ℕ) → received ≡ cond (ahead .reads) (ahead .length) 0 → received ≤ 65535
+    pub next :
+        (received : ℕ)
+        → received ≡ cond (ahead .reads) (ahead .length) 0
+        → lists ≤ left
+        → Standing ahead following (left - lists) (landing + received)
+
   module _ (before ahead : Kept) (left landing : ℕ) (st : Standing before ahead left landing) where
     pub standing-over : not (ahead .there) ≡ true → left ≡ 0 → over ≡ turnIn s place
     unfolding stepsFrom withList turnAt
@@ -82,42 +96,42 @@ module _ (s : List ℕ) (place : ℕ) where
         is-there : ahead .there ≡ true
         is-there = on (ahead .there) there
 
-        pub lists-are : lists ≡ length (withList (stepsFor (operationAt s ahead) flags))
+        lists-are : lists ≡ length (withList (stepsFor (operationAt s ahead) flags))
         lists-are = counted .0 (operationAt s ahead) (sized s ahead (st .1) (st .0))
 
         counted-here : lists ≡ length (withList (stepsFor (operationAt s ahead) (flagsOf before ahead following)))
         counted-here = rw e-flags at lists-are
 
-        pub standing-here :
+        standing-here :
             left < lists
             → turnAt landing left (withList (stepsFor (operationAt s ahead) flags)) ≡ turnIn s place
         standing-here h =
             rw e-flags
             (sym (found-here s before ahead following is-there (seen .0) landing left (omega (arith, h, counted-here))) ∙ st .4)
 
-        pub standing-less :
+        standing-less :
             2 * (length s - following .next) + cond (following .there) 1 0 < 2 * (length s - ahead .next) + cond (ahead .there) 1 0
         standing-less = rw is-there (go (following .there) refl) where
           go : (t : Bool) → following .there ≡ t → 2 * (length s - following .next) + cond t 1 0 < 2 * (length s - ahead .next) + 1
           go true e = omega (arith, seen .2 .1, seen .2 .2 e)
           go false e = omega (arith, seen .2 .0)
 
-        pub standing-bound : length s ≤ 4099 → left < lists → place < 1073741824
+        standing-bound : length s ≤ 4099 → left < lists → place < 1073741824
         standing-bound short h =
             let far = st .3 is-there in
             omega (arith, far .1, st .0, counted .1, count-most (ahead .length) (st .1 .0))
 
-        pub landing-bound : length s ≤ 4099 → landing + 65535 ≤ 1073741824
+        landing-bound : length s ≤ 4099 → landing + 65535 ≤ 1073741824
         landing-bound short = let far = st .3 is-there in omega (arith, far .0, st .0)
 
         module _ (received : ℕ) (e-received : received ≡ cond (ahead .reads) (ahead .length) 0) where
-          pub received-most : received ≤ 65535
+          received-most : received ≤ 65535
           received-most = rw e-received (go (ahead .reads)) where
             go : (r : Bool) → cond r (ahead .length) 0 ≤ 65535
             go true = st .1 .0
             go false = omega arith
 
-          pub standing-next : lists ≤ left → Standing ahead following (left - lists) (landing + received)
+          standing-next : lists ≤ left → Standing ahead following (left - lists) (landing + received)
           standing-next h =
               let far = st .3 is-there in
               let most = received-most in
@@ -130,3 +144,15 @@ module _ (s : List ℕ) (place : ℕ) where
                 rw (e-received, counted-here)
                     (sym (found-later s before ahead following is-there (seen .0) landing left (omega (arith, counted-here))) ∙ st .4),
               )
+
+        pub onward : length s ≤ 4099 → Onward ahead following flags lists left landing
+        onward short =
+            record {
+              lists-are = lists-are;
+              here = standing-here;
+              less = standing-less;
+              bound = standing-bound short;
+              lands = landing-bound short;
+              receives-few = received-most;
+              next = standing-next;
+            }

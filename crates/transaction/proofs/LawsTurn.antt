@@ -1,7 +1,7 @@
 -- Laws of the calls at the turn that a walk has found.
 -- Assumes nothing.
 use Prim.Native.Nat.{ℕ, zero, suc, _+_, _≤_, _<_}
-use native.Mathlib.Nat.{add-assoc, zero-add}
+use native.Mathlib.Nat.{zero-add}
 use native.Mathlib.Omega.{arith}
 use mathlib.Core.Path.{_≡_, refl, sym, ap, _∙_}
 use mathlib.Core.Bool.{Bool, true, false, cond, not, false≢true}
@@ -20,7 +20,7 @@ use Rattle.outcome.specs.Outcomes.{classifyOf, receivedOf}
 use Rattle.script.specs.Records.{recordsOf}
 use Rattle.script.specs.Scripts.{readTotal}
 use Rattle.turns.specs.Steps.{Step, writeStep, readStep, Before, nothing, after, starts, none, readFollows, writeSteps, readSteps, stepsFrom}
-use Rattle.turns.specs.Turns.{Turn, turn, over, beyond, receives, withList, turnsOf, turnAt}
+use Rattle.turns.specs.Turns.{Turn, turn, receives, withList, turnsOf}
 use Rattle.turns.proofs.LawsTurns.{allReceived, with-list-received, received-append, write-received, read-received, turn-received}
 use Rattle.transaction.specs.declared.walk.Found.{Found}
 use Rattle.transaction.specs.declared.walk.Found.the-variants.{Write, Read, Over, Beyond}

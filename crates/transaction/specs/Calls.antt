@@ -20,7 +20,7 @@ use Rattle.list.specs.declared.CommandList.{CommandList}
 use Rattle.list.specs.declared.Answer.the-variants.{NoList}
 use Rattle.list.specs.Lists.{unlisted}
 use Rattle.script.specs.Scripts.{Script, asks, refused, readTotal, scriptOf}
-use Rattle.turns.specs.Steps.{Step, writeStep, readStep}
+use Rattle.turns.specs.Steps.{Step}
 use Rattle.turns.specs.Plan.{builtOf}
 use Rattle.turns.specs.Turns.{Turn, turn, over, beyond, carries, receives, turnsOf, turnAt}
 use Rattle.transaction.specs.declared.Settings.{Settings}

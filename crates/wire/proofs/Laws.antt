@@ -1,17 +1,17 @@
 -- Laws of numbers in byte slices, for citing.
 -- Assumes nothing.
-use Prim.Native.Nat.{ℕ, zero, suc, _+_, _-_, _*_, _/_, _%_, _≤_, _<_}
+use Prim.Native.Nat.{ℕ, suc, _+_, _-_, _*_, _/_, _%_, _≤_, _<_}
 use native.Mathlib.Nat.{add-assoc, add-zero, zero-add}
 use native.Mathlib.Numerals.{add-one}
 use native.Mathlib.Omega.{arith}
 use mathlib.Core.Path.{_≡_, refl, sym, ap, _∙_}
 use mathlib.Core.Bool.{cond}
 use mathlib.Core.List.{List, [], _∷_, _++_}
-use lib.ListN.{length, take, drop, set, getD, length-append}
+use lib.ListN.{length, drop, set, getD, length-append}
 use lib.Dec.{leb}
 use lib.Seq.{sets, sets-eq, paste, paste-suc, take-all, drop-cons}
 use borrow.Author.Tests.{le-leb, lt-leb}
-use Rattle.wire.specs.Numbers.{fourBytes, wordBytes, timeBytes, wordAt, timeAt}
+use Rattle.wire.specs.Numbers.{fourBytes, wordBytes, wordAt}
 
 -- a word's bytes, one after another
 pub stored : (l : List ℕ) (at a b c d : ℕ) → set (set (set (set l at a) (at + 1) b) (at + 2) c) (at + 3) d ≡ sets l at (a ∷ b ∷ c ∷ d ∷ [])

@@ -1,7 +1,7 @@
 -- `transaction::completing::complete_turn` meets its contract.
 -- Assumes nothing.
 use native.Mathlib.Omega.{arith}
-use mathlib.Core.Path.{sym, ap, _∙_}
+use mathlib.Core.Path.{sym, _∙_}
 use lib.ListN.{length}
 use Rattle.refusal.specs.declared.Refusal.the-variants.{Shape, Room, OutOfTurn}
 use Rattle.transaction.proofs.LawsStanding.{off, on}

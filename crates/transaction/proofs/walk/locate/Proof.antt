@@ -6,8 +6,7 @@ use mathlib.Core.Path.{_∙_}
 use mathlib.Core.Bool.{cond, false≢true}
 use lib.ListN.{length}
 use borrow.Author.Needs.{needs}
-use Rattle.transaction.specs.Walk.{turnIn}
-use Rattle.transaction.proofs.LawsStanding.{Standing, inside-wider, standing-first, standing-over, standing-beyond, lists-are, standing-here, standing-less, standing-bound, landing-bound, received-most, standing-next}
+use Rattle.transaction.proofs.LawsStanding.{Standing, inside-wider, standing-first, standing-over, standing-beyond, Onward, onward}
 use Rattle.transaction.proofs.walk.locate.Statement.{statement}
 use Rattle.transaction.proofs.walk.locate.Tie as tie
 
@@ -57,42 +56,33 @@ flags-of-requires c κs = search needs
 count-lists-requires : tie.Need-count-lists-requires Inv-loop μ-loop
 count-lists-requires c κs = search needs
 
+here :
+    (c : tie.After-count-lists Inv-loop μ-loop)
+    → Onward (c .before .before .before .before .before .before .before .before .before .args .script .now) (c .before .before .before .before .before .before .before .before .before .args .place) (c .before .before .before .before .before .loop .ahead) (c .before .before .next-kept2 .result)
+    (c .before .flags-of .result) (c .count-lists .result) (c .before .before .before .before .before .loop .left) (c .before .before .before .before .before .loop .landing)
+here c =
+    let args = c .before .before .before .before .before .before .before .before .before .args in
+    let l = c .before .before .before .before .before .loop in
+    let following = c .before .before .next-kept2 in
+    let flags = c .before .flags-of in
+    onward (args .script .now) (args .place) (l .before) (l .ahead) (l .left) (l .landing) (l .inv) (c .before .before .before .if1 .left)
+    (following .result) (following .ensures) (flags .result) (flags .ensures) (c .count-lists .result) (c .count-lists .ensures)
+    (c .before .before .before .before .before .before .before .before .before .pre .1)
+
 piece-requires : tie.Need-piece-requires Inv-loop μ-loop
 piece-requires c κs =
-    let args = c .before .before .before .before .before .before .before .before .before .before .args in
-    let l = c .before .before .before .before .before .before .loop in
-    let there = c .before .before .before .before .if1 .left in
-    let following = c .before .before .before .next-kept2 in
-    let flags = c .before .before .flags-of in
-    let lists = c .before .count-lists in (
-      l .inv .1,
-      omega (arith, c .if3 .taken, lists .ensures .1),
-      omega (
-        arith,
-        landing-bound (args .script .now) (args .place) (l .before) (l .ahead) (l .left) (l .landing) (l .inv)
-            there (following .result) (following .ensures) (flags .result) (flags .ensures) (lists .result) (lists .ensures) (c .before .before .before .before .before .before .before .before .before .before .pre .1),
-      ),
-    )
+    let on = here (c .before) in
+    (c .before .before .before .before .before .before .loop .inv .1, omega (arith, c .if3 .taken, c .before .count-lists .ensures .1), omega (arith, on .lands))
 
 returns-3 : tie.Need-returns-3 Inv-loop μ-loop
 returns-3 c =
-    let args = c .before .before .before .before .before .before .before .before .before .before .before .args in
+    let s = c .before .before .before .before .before .before .before .before .before .before .before .args .script .now in
     let l = c .before .before .before .before .before .before .before .loop in
-    let there = c .before .before .before .before .before .if1 .left in
-    let following = c .before .before .before .before .next-kept2 in
-    let flags = c .before .before .before .flags-of in
-    let lists = c .before .before .count-lists in (
-      c .piece .ensures .0 (args .script .now) (l .inv .0) (omega (
-        arith,
-        c .before .if3 .taken,
-        lists-are (args .script .now) (args .place) (l .before) (l .ahead) (l .left) (l .landing) (l .inv)
-            there (following .result) (following .ensures) (flags .result) (flags .ensures) (lists .result) (lists .ensures),
-      ))
-          ∙ standing-here (args .script .now) (args .place) (l .before) (l .ahead) (l .left) (l .landing) (l .inv)
-          there (following .result) (following .ensures) (flags .result) (flags .ensures) (lists .result) (lists .ensures) (c .before .if3 .taken),
-      inside-wider (l .ahead .next) (length (args .script .now)) (c .piece .result) (l .inv .0) (c .piece .ensures .1),
-      (λ t. standing-bound (args .script .now) (args .place) (l .before) (l .ahead) (l .left) (l .landing) (l .inv)
-          there (following .result) (following .ensures) (flags .result) (flags .ensures) (lists .result) (lists .ensures) (c .before .before .before .before .before .before .before .before .before .before .before .pre .1) (c .before .if3 .taken)),
+    let on = here (c .before .before) in
+    let inside = c .before .if3 .taken in (
+      c .piece .ensures .0 s (l .inv .0) (omega (arith, inside, on .lists-are)) ∙ on .here inside,
+      inside-wider (l .ahead .next) (length s) (c .piece .result) (l .inv .0) (c .piece .ensures .1),
+      (λ t. on .bound inside),
     )
 
 received-requires : tie.Need-received-requires Inv-loop μ-loop
@@ -100,41 +90,14 @@ received-requires c κs = search needs
 
 add-landing : tie.Need-add-landing Inv-loop μ-loop
 add-landing c =
-    let args = c .before .before .before .before .before .before .before .before .before .before .before .args in
-    let l = c .before .before .before .before .before .before .before .loop in
-    let there = c .before .before .before .before .before .if1 .left in
-    let following = c .before .before .before .before .next-kept2 in
-    let flags = c .before .before .before .flags-of in
-    let lists = c .before .before .count-lists in
-    omega (
-      arith,
-      landing-bound (args .script .now) (args .place) (l .before) (l .ahead) (l .left) (l .landing) (l .inv)
-          there (following .result) (following .ensures) (flags .result) (flags .ensures) (lists .result) (lists .ensures) (c .before .before .before .before .before .before .before .before .before .before .before .pre .1),
-      received-most (args .script .now) (args .place) (l .before) (l .ahead) (l .left) (l .landing) (l .inv)
-          there (following .result) (following .ensures) (flags .result) (flags .ensures) (lists .result) (lists .ensures) (c .received .result) (c .received .ensures),
-    )
+    let on = here (c .before .before) in
+    omega (arith, on .lands, on .receives-few (c .received .result) (c .received .ensures))
 
 loop-less : tie.Need-loop-less Inv-loop μ-loop
-loop-less c =
-    let args = c .before .before .before .before .before .before .before .before .before .before .before .args in
-    let l = c .before .before .before .before .before .before .before .loop in
-    let there = c .before .before .before .before .before .if1 .left in
-    let following = c .before .before .before .before .next-kept2 in
-    let flags = c .before .before .before .flags-of in
-    let lists = c .before .before .count-lists in
-    standing-less (args .script .now) (args .place) (l .before) (l .ahead) (l .left) (l .landing) (l .inv)
-    there (following .result) (following .ensures) (flags .result) (flags .ensures) (lists .result) (lists .ensures)
+loop-less c = here (c .before .before) .less
 
 loop-again : tie.Need-loop-again Inv-loop μ-loop
-loop-again c =
-    let args = c .before .before .before .before .before .before .before .before .before .before .before .args in
-    let l = c .before .before .before .before .before .before .before .loop in
-    let there = c .before .before .before .before .before .if1 .left in
-    let following = c .before .before .before .before .next-kept2 in
-    let flags = c .before .before .before .flags-of in
-    let lists = c .before .before .count-lists in
-    standing-next (args .script .now) (args .place) (l .before) (l .ahead) (l .left) (l .landing) (l .inv)
-    there (following .result) (following .ensures) (flags .result) (flags .ensures) (lists .result) (lists .ensures) (c .received .result) (c .received .ensures) (c .before .if3 .left)
+loop-again c = here (c .before .before) .next (c .received .result) (c .received .ensures) (c .before .if3 .left)
 
 pub locate-spec : {M : Type 1} → statement M
 locate-spec =

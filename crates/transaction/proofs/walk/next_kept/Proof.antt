@@ -2,7 +2,7 @@
 -- Assumes nothing.
 use Prim.Native.Nat.{_-_, _≤_}
 use native.Mathlib.Omega.{arith}
-use mathlib.Core.Path.{_≡_, sym, _∙_}
+use mathlib.Core.Path.{_≡_, _∙_}
 use lib.ListN.{length, drop}
 use borrow.Author.Needs.{needs}
 use Rattle.script.proofs.LawsWalk.{walk-inside, read-next}

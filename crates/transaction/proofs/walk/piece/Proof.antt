@@ -3,7 +3,7 @@
 use native.Mathlib.Omega.{arith}
 use mathlib.Core.Path.{refl}
 use Rattle.chunks.proofs.Laws.{start-most}
-use Rattle.transaction.proofs.LawsOperation.{start-inside, piece-inside, read-found, write-found}
+use Rattle.transaction.proofs.LawsOperation.{Cut, cut}
 use borrow.Author.Needs.{needs}
 use Rattle.transaction.proofs.walk.piece.Statement.{statement}
 use Rattle.transaction.proofs.walk.piece.Tie as tie
@@ -32,75 +32,38 @@ add-flags-at c = search needs
 flags-at-requires : tie.Need-flags-at-requires
 flags-at-requires c κs = search needs
 
+here :
+    (c : tie.After-flags-at)
+    → Cut (c .before .before .before .before .args .ahead) (c .before .before .before .before .args .flags) (c .before .before .before .before .args .at) (c .before .before .before .before .args .landing)
+    (c .before .before .before .piece-start .result) (c .before .before .calculate-chunk-size .result) (c .flags-at .result)
+here c =
+    let args = c .before .before .before .before .args in
+    let start = c .before .before .before .piece-start in
+    let size = c .before .before .calculate-chunk-size in
+    let all = c .before .count-pieces in
+    cut (args .ahead) (args .flags) (args .at) (args .landing) (c .before .before .before .before .pre .0) (start .result) (size .result) (all .result)
+    (c .flags-at .result) (start .ensures) (size .ensures) (all .ensures) (c .flags-at .ensures)
+
 add-t13 : tie.Need-add-t13
-add-t13 c =
-    let args = c .before .before .before .before .before .args in
-    let pre = c .before .before .before .before .before .pre in
-    let start = c .before .before .before .before .piece-start in
-    let size = c .before .before .before .calculate-chunk-size in
-    let all = c .before .before .count-pieces in
-    let own = c .before .flags-at in
-    omega (
-      arith,
-      start-inside (args .ahead) (args .flags) (args .at) (args .landing) (pre .0) (start .result) (size .result) (all .result) (own .result)
-          (start .ensures) (size .ensures) (all .ensures) (own .ensures),
-    )
+add-t13 c = omega (arith, here (c .before) .starts-inside)
 
 returns : tie.Need-returns
 returns c =
-    let args = c .before .before .before .before .before .args in
-    let pre = c .before .before .before .before .before .pre in
-    let start = c .before .before .before .before .piece-start in
-    let size = c .before .before .before .calculate-chunk-size in
-    let all = c .before .before .count-pieces in
-    let own = c .before .flags-at in (
-      (λ script inside h. read-found (args .ahead) (args .flags) (args .at) (args .landing) (pre .0) (start .result) (size .result) (all .result) (own .result)
-          (start .ensures) (size .ensures) (all .ensures) (own .ensures)
-          script (c .if1 .taken) (pre .1)),
-      piece-inside (args .ahead) (args .flags) (args .at) (args .landing) (pre .0) (start .result) (size .result) (all .result) (own .result)
-          (start .ensures) (size .ensures) (all .ensures) (own .ensures) .1,
-      refl,
-    )
+    let piece = here (c .before) in
+    ((λ script inside h. piece .is-read script (c .if1 .taken) (c .before .before .before .before .before .pre .1)), piece .fits, refl)
 
 sub-t10 : tie.Need-sub-t10
 sub-t10 c = c .before .before .before .before .before .before .pre .0 .1 (c .before .if1 .left)
 
 add-t14 : tie.Need-add-t14
-add-t14 c =
-    let args = c .before .before .before .before .before .before .args in
-    let pre = c .before .before .before .before .before .before .pre in
-    let start = c .before .before .before .before .before .piece-start in
-    let size = c .before .before .before .before .calculate-chunk-size in
-    let all = c .before .before .before .count-pieces in
-    let own = c .before .before .flags-at in
-    omega (
-      arith,
-      start-inside (args .ahead) (args .flags) (args .at) (args .landing) (pre .0) (start .result) (size .result) (all .result) (own .result)
-          (start .ensures) (size .ensures) (all .ensures) (own .ensures),
-      pre .0 .1 (c .before .if1 .left),
-    )
+add-t14 c = omega (arith, here (c .before .before) .starts-inside, c .before .before .before .before .before .before .pre .0 .1 (c .before .if1 .left))
 
 returns-2 : tie.Need-returns-2
 returns-2 c =
-    let args = c .before .before .before .before .before .before .args in
-    let pre = c .before .before .before .before .before .before .pre in
-    let start = c .before .before .before .before .before .piece-start in
-    let size = c .before .before .before .before .calculate-chunk-size in
-    let all = c .before .before .before .count-pieces in
-    let own = c .before .before .flags-at in (
-      (λ script inside h. write-found (args .ahead) (args .flags) (args .at) (args .landing) (pre .0) (start .result) (size .result) (all .result) (own .result)
-          (start .ensures) (size .ensures) (all .ensures) (own .ensures)
-          script (c .before .if1 .left) inside h),
-      (
-        omega (
-          arith,
-          piece-inside (args .ahead) (args .flags) (args .at) (args .landing) (pre .0) (start .result) (size .result) (all .result) (own .result)
-              (start .ensures) (size .ensures) (all .ensures) (own .ensures),
-          pre .0 .1 (c .before .if1 .left),
-        ),
-        piece-inside (args .ahead) (args .flags) (args .at) (args .landing) (pre .0) (start .result) (size .result) (all .result) (own .result)
-            (start .ensures) (size .ensures) (all .ensures) (own .ensures) .1,
-      ),
+    let piece = here (c .before .before) in
+    let whole = c .before .before .before .before .before .before .pre .0 .1 (c .before .if1 .left) in (
+      (λ script inside h. piece .is-write script (c .before .if1 .left) inside h),
+      (omega (arith, piece .ends-inside, whole), piece .fits),
       refl,
     )
 
