@@ -4,7 +4,7 @@ use denote.Ref.{now}
 use Rattle.controller.specs.Model.{Run}
 use Rattle.controller.specs.Traces.{runOf}
 use Rattle.controller.specs.Tracing.{Tells}
-use Rattle.controller.proofs.LawsTraces.{received-held, events-held, short-received, short-events, reports}
+use Rattle.controller.proofs.LawsHeard.{received-held, events-held, short-received, short-events, reports}
 use borrow.Author.Needs.{needs}
 use Rattle.controller.proofs.model.run.Statement.{statement}
 use Rattle.controller.proofs.model.run.Tie as tie

@@ -8,7 +8,8 @@ use lib.ListN.{length, drop}
 use Rattle.controller.specs.Places.{stateAt, Inside}
 use Rattle.controller.specs.Model.{runFrom, runList, done, eventsOf}
 use Rattle.controller.specs.Tracing.{blankTrace, heardAll, traced, sensorAt, Within}
-use Rattle.controller.proofs.LawsTraces.{list-exceeds, list-runs, run-malformed, run-halts, run-finishes, run-cut, run-goes, run-over, finishes-fits, goes-fits, goes-within}
+use Rattle.controller.proofs.LawsTraces.{list-exceeds, list-runs, run-malformed, run-halts, run-finishes, run-cut, run-goes, run-over}
+use Rattle.controller.proofs.LawsSpent.{finishes-fits, goes-fits, goes-within}
 use borrow.Author.Needs.{needs}
 use Rattle.controller.proofs.model.trace_words.Statement.{statement}
 use Rattle.controller.proofs.model.trace_words.Tie as tie
