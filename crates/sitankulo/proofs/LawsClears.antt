@@ -1,0 +1,94 @@
+-- Laws of the bus clear in lent memory, for citing: a clear as bytes, pin changes as bytes, and what is left with room and without.
+-- Assumes nothing.
+use Prim.Native.Nat.{ℕ, _+_, _≤_, _<_}
+use native.Mathlib.Omega.{arith}
+use mathlib.Core.Path.{_≡_, refl, ap, _∙_}
+use mathlib.Core.Bool.{cond, _&&_}
+use mathlib.Core.List.{List, [], _∷_}
+use lib.ListN.{length, set}
+use lib.Seq.{paste, length-paste}
+use lib.Dec.{leb}
+use borrow.Author.Tests.{le-leb, lt-leb}
+use Rattle.wire.specs.Numbers.{timeBytes}
+use Rattle.list.specs.Lists.{padded}
+use Rattle.bus_clear.specs.declared.Pins.{Pins}
+use Rattle.bus_clear.specs.declared.Pins.the-variants.{Still, SclLow, SclHigh, SdaHigh, SdaLowSclHigh, SclHighSdaLow, SclLowSdaHigh, SclHighSdaHigh}
+use Rattle.bus_clear.specs.declared.BusClear.{BusClear}
+use Rattle.bus_clear.specs.Pins.{changeBytes}
+use Rattle.sitankulo.specs.declared.changes.Changes.{Changes}
+use Rattle.sitankulo.specs.declared.clears.Telling.{Telling}
+use Rattle.sitankulo.specs.declared.clears.Telling.the-variants.{Tells}
+use Rattle.sitankulo.specs.Answers.{packed}
+use Rattle.sitankulo.specs.ClearLayout.{clearBytes}
+use Rattle.sitankulo.specs.Clears.{changesIn, roomed, ClearLeft}
+
+-- two bytes, then the eight of a time, are the ten of a clear
+pub clear-put :
+    (old new : List ℕ) (a b t : ℕ)
+    → 10 ≤ length old
+    → new
+    ≡ cond (leb (2 + 8) (length (set (set old 0 a) 1 b))) (paste (set (set old 0 a) 1 b) 2 (timeBytes t) 8)
+    (set (set old 0 a) 1 b)
+    → new ≡ paste old 0 (a ∷ b ∷ timeBytes t) 10
+clear-put [] new a b t h e = absurd (omega arith)
+clear-put (x ∷ []) new a b t h e = absurd (omega arith)
+clear-put (x ∷ y ∷ rest) new a b t h e = e ∙ simp (le-leb 10 (length (a ∷ b ∷ rest)) h)
+
+pub clear-length : (old new : List ℕ) (c : BusClear) → 10 ≤ length old → new ≡ paste old 0 (clearBytes c) 10 → length new ≡ length old
+clear-length old new c h e = ap length e ∙ length-paste old 0 (clearBytes c) 10 h (omega arith)
+
+-- a poll makes two changes at most
+pub few-changes : (p : Pins) → length (changeBytes p) ≤ 2
+few-changes Still = omega arith
+few-changes SclLow = omega arith
+few-changes SclHigh = omega arith
+few-changes SdaHigh = omega arith
+few-changes SdaLowSclHigh = omega arith
+few-changes SclHighSdaLow = omega arith
+few-changes SclLowSdaHigh = omega arith
+few-changes SclHighSdaHigh = omega arith
+
+pub few-made : (made : Changes) (p : Pins) → made ≡ changesIn p → made .count ≤ 2
+few-made made p e = rw e (few-changes p)
+
+-- of the two bytes as many are laid as there are changes
+changes-put :
+    (p : Pins) (old : List ℕ)
+    → cond (leb (changesIn p .count) (length (changesIn p .bytes)) && leb (changesIn p .count) (length old))
+    (paste old 0 (changesIn p .bytes) (changesIn p .count)) old
+    ≡ cond (leb (length (changeBytes p)) (length old)) (paste old 0 (changeBytes p) (length (changeBytes p))) old
+unfolding padded
+changes-put Still old = refl
+changes-put SclLow old = refl
+changes-put SclHigh old = refl
+changes-put SdaHigh old = refl
+changes-put SdaLowSclHigh old = refl
+changes-put SclHighSdaLow old = refl
+changes-put SclLowSdaHigh old = refl
+changes-put SclHighSdaHigh old = refl
+
+-- with room and without
+module _ (t : Telling) (number : ℕ) (next : BusClear) (pins : Pins) (e : t ≡ Tells number next pins) (clear changes : List ℕ) where
+  pub short-clear : length clear < 10 → ClearLeft (roomed t clear changes) 7 clear clear changes changes
+  short-clear h = let f = lt-leb 10 (length clear) h in (simp (e, f), simp (e, f), simp (e, f))
+
+  module _ (room : 10 ≤ length clear) (made : Changes) (m : made ≡ changesIn pins) where
+    pub short-changes : length changes < made .count → ClearLeft (roomed t clear changes) 7 clear clear changes changes
+    short-changes h =
+        let f = le-leb 10 (length clear) room in
+        let g = lt-leb (length (changeBytes pins)) (length changes) (omega (arith, ap (λ (c : Changes). c .count) m)) in
+        (simp (e, f, g), simp (e, f, g), simp (e, f, g))
+
+    pub laid :
+        made .count ≤ length changes
+        → (r : ℕ) (clear' changes' : List ℕ)
+        → r ≡ packed number (made .count)
+        → clear' ≡ paste clear 0 (clearBytes next) 10
+        → changes'
+        ≡ cond (leb (made .count) (length (made .bytes)) && leb (made .count) (length changes))
+        (paste changes 0 (made .bytes) (made .count)) changes
+        → ClearLeft (roomed t clear changes) r clear clear' changes changes'
+    laid h r clear' changes' p q s =
+        let f = le-leb 10 (length clear) room in
+        let g = le-leb (length (changeBytes pins)) (length changes) (omega (arith, ap (λ (c : Changes). c .count) m)) in
+        (p ∙ simp (e, f, g, m), q ∙ simp (e, f, g), s ∙ simp m (changes-put pins changes ∙ simp (e, f, g)))

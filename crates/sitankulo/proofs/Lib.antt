@@ -1,0 +1,16 @@
+pub mod LawsTests
+pub mod LawsLists
+pub mod LawsSnapshots
+pub mod LawsNames
+pub mod LawsModel
+pub mod LawsClears
+pub mod LawsClearRuns
+pub mod ReadBack
+pub mod Sizes
+pub mod Refusals
+pub mod LawsRecords
+pub mod LawsHanded
+pub mod LawsTransactions
+pub mod RecordReturns
+pub mod RecordOnly
+pub mod RecordStands

@@ -1,0 +1,174 @@
+-- `sitankulo::transactions::sitankulo_complete` meets its contract.
+-- Assumes nothing.
+use mathlib.Core.Path.{_≡_, sym, _∙_}
+use borrow.Author.Needs.{needs}
+use borrow.Author.Tests.{not-true, not-false}
+use Rattle.script.specs.Scripts.{scriptOf}
+use Rattle.sitankulo.specs.Transactions.{completedFor, landedFor}
+use Rattle.sitankulo.proofs.LawsRecords.{record-long}
+use Rattle.sitankulo.proofs.LawsTransactions.{not-landed, complete-misfit, complete-foreign, complete-silent, complete-told}
+use Rattle.sitankulo.proofs.transactions.sitankulo_complete.Statement.{statement}
+use Rattle.sitankulo.proofs.transactions.sitankulo_complete.Tie as tie
+
+cast-result : tie.Need-cast-result
+cast-result c = search needs
+
+returns : tie.Need-returns
+returns c =
+    let args = c .before .before .before .before .before .before .args in
+    complete-misfit (args .state .now) (args .commands .now) _ _ (landedFor (args .state .now) (args .address) (args .script .now) (args .bits) (args .commands .now) (args .time) (args .received .now) (args .buffer .now)) (args .buffer .now) (c .if1 .taken)
+
+is-record-requires : tie.Need-is-record-requires
+is-record-requires c κs = search needs
+
+foreign-number-requires : tie.Need-foreign-number-requires
+foreign-number-requires c κs = search needs
+
+cast-result-2 : tie.Need-cast-result-2
+cast-result-2 c = search needs
+
+same-length : tie.Need-same-length
+same-length c = search needs
+
+returns-2 : tie.Need-returns-2
+returns-2 c =
+    let tested = c .before .before in
+    complete-foreign _ _ _ _ _ _ (tested .before .before .if1 .left) (sym (tested .is-record .ensures) ∙ not-true _ (c .before .if2 .taken)) (c .foreign-number .result)
+    (c .foreign-number .ensures)
+
+decode-requires : tie.Need-decode-requires
+decode-requires c κs = search needs
+
+snapshot-of-requires : tie.Need-snapshot-of-requires
+snapshot-of-requires c κs = search needs
+
+complete-requires : tie.Need-complete-requires
+complete-requires c κs = search needs
+
+completion-answer-requires : tie.Need-completion-answer-requires
+completion-answer-requires c κs = search needs
+
+does-tell-requires : tie.Need-does-tell-requires
+does-tell-requires c κs = search needs
+
+cast-result-3 : tie.Need-cast-result-3
+cast-result-3 c = search needs
+
+cast-result-4 : tie.Need-cast-result-4
+cast-result-4 c = search needs
+
+mul-result : tie.Need-mul-result
+mul-result c = search needs
+
+add-result : tie.Need-add-result
+add-result c = search needs
+
+same-length-2 : tie.Need-same-length-2
+same-length-2 c = search needs
+
+same-length-3 : tie.Need-same-length-3
+same-length-3 c = search needs
+
+returns-3 : tie.Need-returns-3
+unfolding completedFor landedFor
+returns-3 c =
+    let answered = c .before .before in
+    let called = answered .before .before .before .before in
+    let tested = called .before .before .before .before .before .before in
+    let args = tested .before .before .before .before .before .before .before .before .args in
+    let done = completedFor (args .state .now) (args .address) (args .script .now) (args .bits) (args .commands .now) (args .time) (args .received .now)
+    (args .buffer .now) in
+    let made : called .complete .result ≡ done
+    = called .complete .ensures .0 ∙ rw (called .before .before .before .decode .ensures, called .before .before .snapshot-of .ensures) in
+    let landed = landedFor (args .state .now) (args .address) (args .script .now) (args .bits) (args .commands .now) (args .time) (args .received .now)
+    (args .buffer .now) in
+    let lands : called .complete .last .1 .1 .1 .1 .1 .0 ≡ landed
+    = called .complete .ensures .1 ∙ rw (called .before .before .before .decode .ensures, called .before .before .snapshot-of .ensures) in
+    let is = sym (tested .is-record .ensures) ∙ not-false _ (called .before .before .before .before .before .if2 .left) in
+    let script = scriptOf (args .address) (args .script .now) in
+    let stays = not-landed (args .state .now) (args .address) (args .script .now) (args .bits) (args .commands .now) (args .time) (args .received .now)
+    (args .buffer .now) in
+    complete-silent (args .state .now) (args .commands .now) script done landed (args .buffer .now)
+    (tested .before .before .if1 .left) is (called .complete .result) made (answered .completion-answer .result) (answered .completion-answer .ensures) stays _ lands
+    (sym (c .before .does-tell .ensures) ∙ not-true _ (c .if3 .taken))
+
+encode-requires : tie.Need-encode-requires
+encode-requires c κs =
+    let answered = c .before .before .before in
+    let called = answered .before .before .before .before in
+    let tested = called .before .before .before .before .before .before in
+    record-long (tested .before .before .before .before .before .before .before .before .args .state .now)
+    (sym (tested .is-record .ensures) ∙ not-false _ (called .before .before .before .before .before .if2 .left))
+
+cast-result-5 : tie.Need-cast-result-5
+cast-result-5 c = search needs
+
+cast-result-6 : tie.Need-cast-result-6
+cast-result-6 c = search needs
+
+mul-result-2 : tie.Need-mul-result-2
+mul-result-2 c = search needs
+
+add-result-2 : tie.Need-add-result-2
+add-result-2 c = search needs
+
+same-length-4 : tie.Need-same-length-4
+same-length-4 c = search needs
+
+same-length-5 : tie.Need-same-length-5
+same-length-5 c = search needs
+
+returns-4 : tie.Need-returns-4
+unfolding completedFor landedFor
+returns-4 c =
+    let answered = c .before .before .before .before .before .before in
+    let called = answered .before .before .before .before in
+    let tested = called .before .before .before .before .before .before in
+    let args = tested .before .before .before .before .before .before .before .before .args in
+    let done = completedFor (args .state .now) (args .address) (args .script .now) (args .bits) (args .commands .now) (args .time) (args .received .now)
+    (args .buffer .now) in
+    let made : called .complete .result ≡ done
+    = called .complete .ensures .0 ∙ rw (called .before .before .before .decode .ensures, called .before .before .snapshot-of .ensures) in
+    let landed = landedFor (args .state .now) (args .address) (args .script .now) (args .bits) (args .commands .now) (args .time) (args .received .now)
+    (args .buffer .now) in
+    let lands : called .complete .last .1 .1 .1 .1 .1 .0 ≡ landed
+    = called .complete .ensures .1 ∙ rw (called .before .before .before .decode .ensures, called .before .before .snapshot-of .ensures) in
+    let is = sym (tested .is-record .ensures) ∙ not-false _ (called .before .before .before .before .before .if2 .left) in
+    let script = scriptOf (args .address) (args .script .now) in
+    let stays = not-landed (args .state .now) (args .address) (args .script .now) (args .bits) (args .commands .now) (args .time) (args .received .now)
+    (args .buffer .now) in
+    complete-told (args .state .now) (args .commands .now) script done landed (args .buffer .now)
+    (tested .before .before .if1 .left) is (called .complete .result) made (answered .completion-answer .result) (answered .completion-answer .ensures) stays _ lands
+    (sym (c .before .before .before .before .before .does-tell .ensures) ∙ not-false _ (c .before .before .before .before .if3 .left)) _ (c .before .before .encode .ensures)
+
+pub sitankulo-complete-spec : {M : Type 1} → statement M
+sitankulo-complete-spec =
+    tie.close
+    (tie.spec
+    cast-result
+    returns
+    is-record-requires
+    foreign-number-requires
+    cast-result-2
+    same-length
+    returns-2
+    decode-requires
+    snapshot-of-requires
+    complete-requires
+    completion-answer-requires
+    does-tell-requires
+    cast-result-3
+    cast-result-4
+    mul-result
+    add-result
+    same-length-2
+    same-length-3
+    returns-3
+    encode-requires
+    cast-result-5
+    cast-result-6
+    mul-result-2
+    add-result-2
+    same-length-4
+    same-length-5
+    returns-4)

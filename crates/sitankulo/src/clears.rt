@@ -1,0 +1,99 @@
+// The bus clear, whose record travels in lent memory.
+ghost use mathlib.Core.Path.{_≡_};
+ghost use Rattle.sitankulo.specs.Clears.{pollTold, stepTold, roomed, freshCall, stepCall, ClearLeft};
+use crate::answer;
+use crate::changes;
+use crate::clear_layout;
+use crate::clear_layout::Decoded;
+use bus_clear::Answer;
+use bus_clear::BusClear;
+use bus_clear::Pins;
+
+// What a call tells: a refusal, or a number with the clear that it leaves and its pin changes.
+enum Telling {
+    Refuses(u32),
+    Tells(u8, BusClear, Pins),
+}
+
+const PENDING: u8 = 255;
+
+// Lays what is told into the lent memory, where there is room for it.
+fn lay(telling: Telling, clear: &mut [u8], changes: &mut [u8]) -> u32
+    ensures { λ r. ⌜ ClearLeft (roomed telling (now (clear .entry)) (now (changes .entry)))
+        r (now (clear .entry)) (now (clear .exit)) (now (changes .entry)) (now (changes .exit)) ⌝ }
+{
+    match telling {
+        Telling::Refuses(number) => number,
+        Telling::Tells(number, next, pins) => {
+            let made = changes::changes_of(pins);
+            let count = made.count;
+            let bytes = made.bytes;
+            if clear.len() < clear_layout::SIZE {
+                return answer::ROOM;
+            }
+            if changes.len() < count {
+                return answer::ROOM;
+            }
+            clear_layout::put_clear(next, clear);
+            wire::put_bytes(&bytes, count, changes);
+            answer::pack(number, count as u8)
+        }
+    }
+}
+
+fn tell_poll(told: Answer, next: BusClear) -> Telling
+    ensures { λ r. ⌜ r ≡ pollTold told next ⌝ }
+{
+    match told {
+        Answer::Ready => Telling::Tells(0, next, Pins::Still),
+        Answer::Pending(pins) => Telling::Tells(PENDING, next, pins),
+        Answer::ClockRange => Telling::Refuses(answer::CLOCK_RANGE),
+    }
+}
+
+fn tell_step(decoded: Decoded, pins: u8, time: u64, sda: u8) -> Telling
+    ensures { λ r. ⌜ r ≡ stepTold decoded pins time sda ⌝ }
+{
+    match decoded {
+        Decoded::Foreign => Telling::Refuses(answer::SHAPE),
+        Decoded::Held(clear) => {
+            let stepped = bus_clear::step(clear, pins != 0, time, sda != 0);
+            let told = stepped.answer;
+            let next = stepped.next;
+            tell_poll(told, next)
+        }
+    }
+}
+
+// A fresh clear.
+#[no_mangle]
+pub extern "C" fn sitankulo_clear_fresh(
+    clear: &mut [u8],
+    pins: u8,
+    time: u64,
+    changes: &mut [u8],
+) -> u32
+    ensures { λ r. ⌜ ClearLeft (freshCall (now (clear .entry)) pins time (now (changes .entry)))
+        r (now (clear .entry)) (now (clear .exit)) (now (changes .entry)) (now (changes .exit)) ⌝ }
+{
+    let begun = bus_clear::fresh(pins != 0, time);
+    let fresh = begun.clear;
+    let made = begun.pins;
+    lay(Telling::Tells(0, fresh, made), clear, changes)
+}
+
+// One poll.
+#[no_mangle]
+pub extern "C" fn sitankulo_clear_step(
+    clear: &mut [u8],
+    pins: u8,
+    time: u64,
+    sda: u8,
+    changes: &mut [u8],
+) -> u32
+    ensures { λ r. ⌜ ClearLeft (stepCall (now (clear .entry)) pins time sda (now (changes .entry)))
+        r (now (clear .entry)) (now (clear .exit)) (now (changes .entry)) (now (changes .exit)) ⌝ }
+{
+    let decoded = clear_layout::decode(clear);
+    lay(tell_step(decoded, pins, time, sda), clear, changes)
+}

@@ -1,0 +1,181 @@
+// The record of a transaction in memory: flags, a place and two times, 25 bytes.
+ghost use mathlib.Core.Path.{_≡_};
+ghost use Prim.Native.Nat.{_≤_};
+ghost use lib.ListN.{length, getD};
+ghost use lib.Seq.{paste};
+ghost use Rattle.outcome.specs.declared.Due.the-variants.{Never};
+ghost use Rattle.transaction.specs.Calls.{accepted};
+ghost use Rattle.sitankulo.specs.Records.{timed, timeIn, dueBy, weighed, flagsOf, recordBytes, progressBy, recordIn, standing, kept, agreeing, isRecord};
+use outcome::Due;
+use transaction::Progress;
+
+pub(crate) const SIZE: usize = 25;
+
+const PLACE: usize = 1;
+
+const DUE: usize = 9;
+
+const FIXED: usize = 17;
+
+// No flag has so high a value.
+const FLAGS_END: u8 = 32;
+
+fn is_timed(due: Due) -> bool
+    ensures { λ r. ⌜ r ≡ timed due ⌝ }
+{
+    match due {
+        Due::Never => false,
+        Due::At(_) => true,
+    }
+}
+
+fn time_in(due: Due) -> u64
+    ensures { λ r. ⌜ r ≡ timeIn due ⌝ }
+{
+    match due {
+        Due::Never => 0,
+        Due::At(time) => time,
+    }
+}
+
+fn due_by(there: bool, time: u64) -> Due
+    ensures { λ r. ⌜ r ≡ dueBy there time ⌝ }
+{
+    if there {
+        return Due::At(time);
+    }
+    Due::Never
+}
+
+fn weigh(flag: bool, weight: u8) -> u8
+    ensures { λ r. ⌜ (r ≡ weighed flag weight) × (r ≤ weight) ⌝ }
+{
+    if flag { weight } else { 0 }
+}
+
+fn flags_of(p: Progress) -> u8
+    ensures { λ r. ⌜ r ≡ flagsOf p ⌝ }
+{
+    let due = p.due;
+    let fixed = p.fixed;
+    weigh(p.outstanding, 1)
+        + weigh(p.polled, 2)
+        + weigh(p.failed, 4)
+        + weigh(is_timed(due), 8)
+        + weigh(is_timed(fixed), 16)
+}
+
+// A transaction that is accepted with no fixed deadline.
+pub(crate) fn blank() -> Progress
+    ensures { λ r. ⌜ r ≡ accepted Never ⌝ }
+{
+    Progress {
+        place: 0,
+        outstanding: false,
+        due: Due::Never,
+        polled: false,
+        failed: false,
+        fixed: Due::Never,
+    }
+}
+
+// Writes a record.
+pub(crate) fn encode(p: Progress, state: &mut [u8])
+    requires { ⌜ 25 ≤ length (now state) ⌝ }
+    ensures { λ r. ⌜ now (state .exit) ≡ paste (now (state .entry)) 0 (recordBytes p) 25 ⌝ }
+{
+    let due = p.due;
+    let fixed = p.fixed;
+    state[0] = flags_of(p);
+    wire::put_time(p.place as u64, PLACE, state);
+    wire::put_time(time_in(due), DUE, state);
+    wire::put_time(time_in(fixed), FIXED, state);
+}
+
+fn flags_in(state: &[u8]) -> u8
+    ensures { λ r. ⌜ r ≡ getD (now (state .entry)) 0 0 ⌝ }
+{
+    if state.len() == 0 {
+        return 0;
+    }
+    state[0]
+}
+
+fn progress_by(flags: u8, place: u64, due: u64, fixed: u64) -> Progress
+    ensures { λ r. ⌜ r ≡ progressBy flags place due fixed ⌝ }
+{
+    Progress {
+        place: place as usize,
+        outstanding: flags % 2 == 1,
+        due: due_by(flags / 8 % 2 == 1, due),
+        polled: flags / 2 % 2 == 1,
+        failed: flags / 4 % 2 == 1,
+        fixed: due_by(flags / 16 % 2 == 1, fixed),
+    }
+}
+
+// What bytes say, where they are a record.
+pub(crate) fn decode(state: &[u8]) -> Progress
+    ensures { λ r. ⌜ r ≡ recordIn (now (state .entry)) ⌝ }
+{
+    progress_by(
+        flags_in(state),
+        wire::time_at(state, PLACE),
+        wire::time_at(state, DUE),
+        wire::time_at(state, FIXED),
+    )
+}
+
+// Only an outstanding list has a due time or a poll, and it has not failed.
+fn is_standing(p: Progress) -> bool
+    ensures { λ r. ⌜ r ≡ standing p ⌝ }
+{
+    if p.outstanding {
+        return !p.failed;
+    }
+    if p.polled {
+        return false;
+    }
+    let due = p.due;
+    !is_timed(due)
+}
+
+// A time that there is not is 0.
+fn is_kept(there: bool, time: u64) -> bool
+    ensures { λ r. ⌜ r ≡ kept there time ⌝ }
+{
+    if there {
+        return true;
+    }
+    time == 0
+}
+
+// No flag is unknown, and the times agree with the flags.
+fn is_agreeing(flags: u8, due: u64, fixed: u64) -> bool
+    ensures { λ r. ⌜ r ≡ agreeing flags due fixed ⌝ }
+{
+    if flags >= FLAGS_END {
+        return false;
+    }
+    if is_kept(flags / 8 % 2 == 1, due) {
+        return is_kept(flags / 16 % 2 == 1, fixed);
+    }
+    false
+}
+
+// The bytes are such as a call of ours leaves.
+pub(crate) fn is_record(state: &[u8]) -> bool
+    ensures { λ r. ⌜ r ≡ isRecord (now (state .entry)) ⌝ }
+{
+    if state.len() < SIZE {
+        return false;
+    }
+    if is_agreeing(
+        flags_in(state),
+        wire::time_at(state, DUE),
+        wire::time_at(state, FIXED),
+    ) {
+        return is_standing(decode(state));
+    }
+    false
+}
