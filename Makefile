@@ -1,4 +1,4 @@
-.PHONY: test run rules fmt clean
+.PHONY: test run rules fmt clean lib install ctest soak bench
 
 # The gate: everything that must hold.
 test:
@@ -17,6 +17,38 @@ run:
 rules:
 	python3 tools/test_rules.py
 	python3 tools/rules.py
+
+# The library for C on the machine at hand.
+LIBRARY = target/library/libsitankulo.a
+LIBRARY_SOURCES = crates.txt include/sitankulo.h tools/library tools/library_clang $(shell find crates -name '*.rt' -o -name '*.antt')
+
+lib: $(LIBRARY)
+
+$(LIBRARY): $(LIBRARY_SOURCES)
+	@echo 'Proving and building the library; this takes some minutes.' >&2
+	@tools/library
+
+# Installs library, header and pkg-config file: make install PREFIX=/opt/printer
+PREFIX = /usr/local
+
+install:
+	@tools/library install $(PREFIX)
+
+# Tests of the C calls: plainly, with sanitizers, under valgrind; the header by itself; the example.
+ctest: lib
+	@$(MAKE) --no-print-directory -C host/c test
+
+# The C calls against the Rust original, for at most so many seconds: make soak COUNT=300000 SEED=1
+COUNT = 10000000
+SECONDS = 1200
+SEED =
+
+soak: lib
+	@$(MAKE) --no-print-directory -C host/c soak COUNT=$(COUNT) SECONDS=$(SECONDS) SEED=$(SEED)
+
+# Instructions of the C calls and of the Rust original, counted by callgrind.
+bench: lib
+	@$(MAKE) --no-print-directory -C host/bench
 
 fmt:
 	rt fmt

@@ -1,0 +1,98 @@
+#!/usr/bin/env python3
+"""Counts instructions with callgrind: the library through its C calls, and the Rust original, on the same inputs.
+
+    bench.py PROGRAM      PROGRAM is host/bench/counted, built as a release
+
+Each thing is done once, in a run of its own, and only what it does is collected. The controller that completes lists is left out on both
+sides. The Rust original's mock FIFO and pins do more than the one store or load of a part: what they do beyond it is counted by itself and
+taken off, and the table shows both figures.
+"""
+
+import re
+import subprocess
+import sys
+
+COLLECTED = re.compile(r'Collected : (\d+)')
+
+
+def run(program, thing, amount):
+    """The instructions collected, and how often collecting was paused."""
+    command = ['valgrind', '--tool=callgrind', '--callgrind-out-file=/dev/null', '--collect-atstart=no', program, thing, str(amount)]
+    ran = subprocess.run(command, capture_output=True, text=True)
+    found = COLLECTED.search(ran.stderr)
+    if ran.returncode != 0 or not found:
+        sys.exit(f'bench: {thing} {amount} failed:\n{ran.stderr}')
+    return int(found[1]), int(ran.stdout)
+
+
+class Counts:
+    """Counts of one program, each taken once."""
+
+    def __init__(self, program):
+        self.program, self.known = program, {}
+        self.toggling, _ = run(program, 'nothing', 1)
+
+    def __call__(self, thing, amount=1):
+        if (thing, amount) not in self.known:
+            collected, pauses = run(self.program, thing, amount)
+            self.known[thing, amount] = collected - self.toggling * (1 + pauses)
+        return self.known[thing, amount]
+
+
+# ---- the table
+
+def print_row(name, ours, checks, original, mocks):
+    """`mocks` is what the original's mocks do beyond one store or load for each byte or level."""
+    fair = original - mocks if original else None
+    ratio = f'{ours / fair:.2f}' if fair else ''
+    without = f'{(ours - checks) / fair:.2f}' if fair and checks else ''
+    figures = [ours, checks or '', original or '', fair or '', ratio, without]
+    print(f'| {name} | ' + ' | '.join(f'{figure:,}' if isinstance(figure, int) else figure for figure in figures) + ' |')
+
+
+def print_table(counts):
+    print('| what | ours | of it checking the script again | the Rust | without its mocks | ratio | ratio without the checking |')
+    print('|---|--:|--:|--:|--:|--:|--:|')
+    print_row('all lists of a write of 4,093 bytes', counts('ours_write', 4093), counts('ours_write_checks', 4093),
+              counts('original_write', 4093), counts('mock_fifo_writes', 4093) - 4093)
+    print_row('all lists of a read of 4,096 bytes', counts('ours_read', 4096), counts('ours_read_checks', 4096),
+              counts('original_read', 4096), counts('mock_fifo_reads', 4096) - 4096)
+    # a register's number and the address twice go out, two bytes come in
+    mocks = counts('mock_fifo_writes', 3000) - 3000 + counts('mock_fifo_reads', 2000) - 2000
+    print_row('a thousand register reads', counts('ours_register_reads', 1000), counts('ours_register_reads_checks', 1000),
+              counts('original_register_reads', 1000), mocks)
+    print_row('one snapshot classified', counts('ours_classify'), 0, counts('original_classify'), 0)
+    # twenty polls with SDA low change a pin 21 times
+    mocks = counts('mock_pin_changes', 23) - counts('mock_pin_changes', 2) - 21
+    print_row('twenty clear polls', counts('ours_clear', 20) - counts('ours_clear', 0), 0,
+              counts('original_clear', 20) - counts('original_clear', 0), mocks)
+    print_row('one list inspected', counts('ours_inspect'), 0, None, 0)
+
+
+def print_growth(counts, name, things, amounts):
+    print(f'\n| {name} | ' + ' | '.join(f'{amount:,}' for amount in amounts) + ' |')
+    print('|---|' + '--:|' * len(amounts))
+    for title, thing in things:
+        figures = [counts(thing, amount) for amount in amounts]
+        print(f'| {title} | ' + ' | '.join(f'{figure:,}' for figure in figures) + ' |')
+        steps = [f'{late / early:.2f}' for early, late in zip(figures, figures[1:])]
+        print(f'| {title}, times the one before | | ' + ' | '.join(steps) + ' |')
+
+
+def print_all_growth(counts):
+    for name, thing, first in [('bytes written', 'write', 511), ('bytes read', 'read', 512), ('records', 'records', 146)]:
+        things = [('ours', f'ours_{thing}'), ('of it checking the script again', f'ours_{thing}_checks'),
+                  ('the Rust, with its mocks', f'original_{thing}')]
+        print_growth(counts, name, things, [first * times for times in (1, 2, 4, 8)])
+
+
+def main():
+    if len(sys.argv) != 2:
+        sys.exit(__doc__)
+    counts = Counts(sys.argv[1])
+    print_table(counts)
+    print_all_growth(counts)
+
+
+if __name__ == '__main__':
+    main()
