@@ -12,6 +12,8 @@
  *
  * A refused call writes no byte anywhere. A call that is not refused writes only what it says here; bytes beyond stay as they are.
  *
+ * A record or a clear may lie in memory that is longer than it; what is beyond is neither read nor written.
+ *
  * A pointer may be null where its length is 0. Memory that is lent for writing must not overlap any other memory of the same call; what is
  * only read may overlap. A flag is a byte: 0 is no, any other value is yes. Numbers in memory are big-endian. Times are in microseconds.
  *
@@ -88,7 +90,8 @@ extern "C" {
  * FIFO. `words` gets 32 bytes, `fifo` as many as that.
  */
 
-#define SITANKULO_START 1u     /* flags: START and the address come first */
+/* flags; other bits are ignored, and CONTINUES by a write */
+#define SITANKULO_START 1u     /* START and the address come first */
 #define SITANKULO_STOP 2u      /* STOP comes last */
 #define SITANKULO_CONTINUES 4u /* a read whose last byte is acknowledged, since another read follows */
 

@@ -207,12 +207,16 @@ static void test_lists_and_phases(void) {
     }
 }
 
-/* The longest traffic of a list: 72 events, and the most bytes received. */
+/* A full FIFO, the most bytes received, and both in one list: 67 events. */
 static void test_longest(void) {
+    struct list both = {{0x3000, 0x091F, 0x3000, 0x0901, 0x181F, 0x1C01, 0x1000}, {0}, 32, SITANKULO_IDLE};
     struct list writes = {{0x3000, 0x0920, 0x2000}, {0}, 32, SITANKULO_IDLE};
     struct list reads = {{0x181F, 0x1801, 0x2000}, {0}, 0, SITANKULO_READING};
     struct list refused = {{0x3000, 0x0920, 0x2000}, {0}, 32, SITANKULO_IDLE};
     static const struct sensor willing = {NULL, 0, 0}, last = {NULL, 0, 32}, beyond = {NULL, 0, 33}, never = {NULL, 0, SIZE_MAX};
+    both.fifo[31] = 0x53;
+    CHECK(run_of(&both, &willing).ending == 0 && run_of(&both, &willing).event_count == 67);
+    ask(&both);
     ask(&writes);
     ask(&reads);
     ask_model(&refused, &willing, 0, 2 * 33);
