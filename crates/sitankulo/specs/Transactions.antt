@@ -22,6 +22,7 @@ use Rattle.transaction.specs.declared.Abandoned.{Abandoned}
 use Rattle.transaction.specs.Calls.{accepted, beginOf, nextOf, completeOf, bufferOf, abandonOf}
 use Rattle.transaction.specs.Numbers.{beginNumber, nextNumber, completionAnswer, abandonNumber}
 use Rattle.wire.specs.Numbers.{wordsOf}
+use Rattle.sitankulo.specs.Answers.{packed, yes}
 use Rattle.sitankulo.specs.Records.{recordBytes, recordIn, isRecord}
 
 -- "bits 0 to 7: 0, a code, or a refusal"
@@ -38,10 +39,6 @@ goesAhead number = eqb number 0 || eqb number 253
 -- the record is written
 abbrev pub renewed : List ℕ → Progress → List ℕ
 renewed state p = paste state 0 (recordBytes p) 25
-
--- "A flag is a byte: 0 is no, any other value is yes."
-abbrev pub yes : ℕ → Bool
-yes flag = not (eqb flag 0)
 
 -- "A deadline's kind: 0 none; 1 fixed; 2 per byte"
 abbrev pub unknown : ℕ → Bool
@@ -108,7 +105,7 @@ tells number = eqb number 0 || (eqb number 255 || (leb 8 number && leb number 11
 
 -- "the detail is the reason"
 abbrev pub saying : Answer → ℕ
-saying a = a .number + 256 * (a .reason)
+saying a = packed (a .number) (a .reason)
 
 unfoldable pub completeAnswer : List ℕ → List ℕ → Script → Completed → ℕ
 completeAnswer state commands script c =
