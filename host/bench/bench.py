@@ -41,6 +41,11 @@ class Counts:
 
 # ---- the table
 
+def mock_excess(counts, thing, amount):
+    """What the original's mocks do beyond one store or load of a register, in the same loop."""
+    return counts(f'mock_{thing}', amount) - counts(f'plain_{thing}', amount)
+
+
 def print_row(name, ours, checks, original, mocks):
     """`mocks` is what the original's mocks do beyond one store or load for each byte or level."""
     fair = original - mocks if original else None
@@ -54,16 +59,16 @@ def print_table(counts):
     print('| what | ours | of it checking the script again | the Rust | without its mocks | ratio | ratio without the checking |')
     print('|---|--:|--:|--:|--:|--:|--:|')
     print_row('all lists of a write of 4,093 bytes', counts('ours_write', 4093), counts('ours_write_checks', 4093),
-              counts('original_write', 4093), counts('mock_fifo_writes', 4093) - 4093)
+              counts('original_write', 4093), mock_excess(counts, 'fifo_writes', 4093))
     print_row('all lists of a read of 4,096 bytes', counts('ours_read', 4096), counts('ours_read_checks', 4096),
-              counts('original_read', 4096), counts('mock_fifo_reads', 4096) - 4096)
+              counts('original_read', 4096), mock_excess(counts, 'fifo_reads', 4096))
     # a register's number and the address twice go out, two bytes come in
-    mocks = counts('mock_fifo_writes', 3000) - 3000 + counts('mock_fifo_reads', 2000) - 2000
+    mocks = mock_excess(counts, 'fifo_writes', 3000) + mock_excess(counts, 'fifo_reads', 2000)
     print_row('a thousand register reads', counts('ours_register_reads', 1000), counts('ours_register_reads_checks', 1000),
               counts('original_register_reads', 1000), mocks)
     print_row('one snapshot classified', counts('ours_classify'), 0, counts('original_classify'), 0)
     # twenty polls with SDA low change a pin 21 times
-    mocks = counts('mock_pin_changes', 23) - counts('mock_pin_changes', 2) - 21
+    mocks = mock_excess(counts, 'pin_changes', 23) - mock_excess(counts, 'pin_changes', 2)
     print_row('twenty clear polls', counts('ours_clear', 20) - counts('ours_clear', 0), 0,
               counts('original_clear', 20) - counts('original_clear', 0), mocks)
     print_row('one list inspected', counts('ours_inspect'), 0, None, 0)

@@ -1,9 +1,10 @@
 // What a snapshot of the controller means for the list that it executes.
 ghost use mathlib.Core.Path.{_≡_};
+ghost use mathlib.Core.Bool.{cond};
+ghost use Rattle.outcome.specs.declared.Outcome.the-variants.{Done};
 ghost use Rattle.outcome.specs.Packed.{unpacked};
 ghost use Rattle.outcome.specs.Answers.{reasonOf, errorAnswer, answerOf};
 ghost use Rattle.outcome.specs.Outcomes.{unansweredOf, timedOutOf, errorsOf, pastOf, finishedOf, forgiveTimeout, pollOf, slotsOf, commandsOf, classifyOf, receivedOf};
-ghost use lib.ListN.{length};
 
 // Why a byte was not acknowledged.
 pub enum Reason {
@@ -214,17 +215,21 @@ pub fn all_commands_done(s: Snapshot, due: Due) -> Outcome
     }
 }
 
+// The wait for a list, which a list whose poll has succeeded has behind it.
+fn poll_unless(polled: bool, s: Snapshot, due: Due) -> Outcome
+    ensures { λ r. ⌜ r ≡ cond polled Done (pollOf s due) ⌝ }
+{
+    if polled {
+        return Outcome::Done;
+    }
+    poll_completion(s, due)
+}
+
 // What a snapshot means for a list whose poll has, or has not yet, succeeded.
 pub fn classify(s: Snapshot, polled: bool, due: Due) -> Classified
     ensures { λ r. ⌜ r ≡ classifyOf s polled due ⌝ }
 {
-    if polled {
-        return Classified {
-            outcome: all_commands_done(s, due),
-            polled: true,
-        };
-    }
-    let poll = poll_completion(s, due);
+    let poll = poll_unless(polled, s, due);
     match poll {
         Outcome::Pending => Classified {
             outcome: Outcome::Pending,

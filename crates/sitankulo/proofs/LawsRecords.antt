@@ -84,19 +84,6 @@ module _
     unfolding recordBytes
     encoded = rw (← flags-are, ← due-is, ← fixed-is) whole-is
 
--- which bytes are a record
-module _ (state : List ℕ) (long : 25 ≤ length state) where
-  abbrev agreed : Bool
-  agreed = agreeing (getD state 0 0) (timeAt state 9) (timeAt state 17)
-
-  pub is-record : agreed ≡ true → standing (recordIn state) ≡ isRecord state
-  unfolding isRecord
-  is-record e = rw (le-leb 25 (length state) long, e)
-
-  pub no-record : agreed ≡ false → false ≡ isRecord state
-  unfolding isRecord
-  no-record e = rw (le-leb 25 (length state) long, e)
-
 -- a record is long enough to be written again
 pub record-long : (state : List ℕ) → isRecord state ≡ true → 25 ≤ length state
 unfolding isRecord

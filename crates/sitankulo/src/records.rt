@@ -1,13 +1,20 @@
 // The record of a transaction in memory: flags, a place and two times, 25 bytes.
 ghost use mathlib.Core.Path.{_≡_};
+ghost use mathlib.Core.Bool.{true, _&&_};
 ghost use Prim.Native.Nat.{_≤_};
-ghost use lib.ListN.{length, getD};
+ghost use lib.ListN.{length};
 ghost use lib.Seq.{paste};
 ghost use Rattle.outcome.specs.declared.Due.the-variants.{Never};
 ghost use Rattle.transaction.specs.Calls.{accepted};
 ghost use Rattle.sitankulo.specs.Records.{timed, timeIn, dueBy, weighed, flagsOf, recordBytes, progressBy, recordIn, standing, kept, agreeing, isRecord};
 use outcome::Due;
 use transaction::Progress;
+
+// What is read out of memory, and whether a call of ours left it there.
+pub(crate) struct Held {
+    pub(crate) ours: bool,
+    pub(crate) progress: Progress,
+}
 
 pub(crate) const SIZE: usize = 25;
 
@@ -92,15 +99,6 @@ pub(crate) fn encode(p: Progress, state: &mut [u8])
     wire::put_time(time_in(fixed), FIXED, state);
 }
 
-fn flags_in(state: &[u8]) -> u8
-    ensures { λ r. ⌜ r ≡ getD (now (state .entry)) 0 0 ⌝ }
-{
-    if state.len() == 0 {
-        return 0;
-    }
-    state[0]
-}
-
 fn progress_by(flags: u8, place: u64, due: u64, fixed: u64) -> Progress
     ensures { λ r. ⌜ r ≡ progressBy flags place due fixed ⌝ }
 {
@@ -112,18 +110,6 @@ fn progress_by(flags: u8, place: u64, due: u64, fixed: u64) -> Progress
         failed: flags / 4 % 2 == 1,
         fixed: due_by(flags / 16 % 2 == 1, fixed),
     }
-}
-
-// What bytes say, where they are a record.
-pub(crate) fn decode(state: &[u8]) -> Progress
-    ensures { λ r. ⌜ r ≡ recordIn (now (state .entry)) ⌝ }
-{
-    progress_by(
-        flags_in(state),
-        wire::time_at(state, PLACE),
-        wire::time_at(state, DUE),
-        wire::time_at(state, FIXED),
-    )
 }
 
 // Only an outstanding list has a due time or a poll, and it has not failed.
@@ -163,19 +149,32 @@ fn is_agreeing(flags: u8, due: u64, fixed: u64) -> bool
     false
 }
 
-// The bytes are such as a call of ours leaves.
-pub(crate) fn is_record(state: &[u8]) -> bool
-    ensures { λ r. ⌜ r ≡ isRecord (now (state .entry)) ⌝ }
+// The flags and times are such as a call of ours leaves, and so is what they say.
+fn is_left(flags: u8, due: u64, fixed: u64, p: Progress) -> bool
+    ensures { λ r. ⌜ r ≡ (agreeing flags due fixed && standing p) ⌝ }
 {
-    if state.len() < SIZE {
-        return false;
-    }
-    if is_agreeing(
-        flags_in(state),
-        wire::time_at(state, DUE),
-        wire::time_at(state, FIXED),
-    ) {
-        return is_standing(decode(state));
+    if is_agreeing(flags, due, fixed) {
+        return is_standing(p);
     }
     false
+}
+
+// What bytes say, if they are such as a call of ours leaves.
+pub(crate) fn read(state: &[u8]) -> Held
+    ensures { λ r. ⌜ (r .ours ≡ isRecord (now (state .entry))) × (r .ours ≡ true → r .progress ≡ recordIn (now (state .entry))) ⌝ }
+{
+    if state.len() < SIZE {
+        return Held {
+            ours: false,
+            progress: blank(),
+        };
+    }
+    let flags = state[0];
+    let due = wire::time_at(state, DUE);
+    let fixed = wire::time_at(state, FIXED);
+    let progress = progress_by(flags, wire::time_at(state, PLACE), due, fixed);
+    Held {
+        ours: is_left(flags, due, fixed, progress),
+        progress: progress,
+    }
 }

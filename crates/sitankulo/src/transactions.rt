@@ -1,6 +1,7 @@
 // A transaction by numbers and byte slices. Its record is lent as `state`.
 ghost use mathlib.Core.Path.{_≡_};
 ghost use mathlib.Core.Bool.{cond};
+ghost use Prim.Native.Nat.{_≤_};
 ghost use lib.ListN.{length};
 ghost use lib.Seq.{paste};
 ghost use Rattle.script.specs.Scripts.{scriptOf};
@@ -47,6 +48,7 @@ fn settings_of(kind: u8, duration: u64) -> Settings
 }
 
 fn snapshot_of(bits: u8, commands: &[u8], time: u64) -> Snapshot
+    requires { ⌜ 32 ≤ length (now commands) ⌝ }
     ensures { λ r. ⌜ r ≡ snapshotOf bits (now (commands .entry)) time ⌝ }
 {
     outcome::unpack(bits, wire::words_of(commands), time)
@@ -152,11 +154,13 @@ pub extern "C" fn sitankulo_next(
     if deadline > LAST_KIND {
         return SHAPE as u32;
     }
-    if !records::is_record(state) {
+    let held = records::read(state);
+    if !held.ours {
         return foreign_number(address, script) as u32;
     }
+    let before = held.progress;
     let handed = transaction::next_list(
-        records::decode(state),
+        before,
         settings_of(deadline, duration),
         address,
         script,
@@ -224,11 +228,13 @@ pub extern "C" fn sitankulo_complete(
     if commands.len() != WORDS {
         return LIST_REFUSED as u32;
     }
-    if !records::is_record(state) {
+    let held = records::read(state);
+    if !held.ours {
         return foreign_number(address, script) as u32;
     }
+    let before = held.progress;
     let completed = transaction::complete(
-        records::decode(state),
+        before,
         address,
         script,
         snapshot_of(bits, commands, time),
@@ -258,10 +264,12 @@ pub extern "C" fn sitankulo_abandon(state: &mut [u8], bits: u8, commands: &[u8],
     if commands.len() != WORDS {
         return LIST_REFUSED as u32;
     }
-    if !records::is_record(state) {
+    let held = records::read(state);
+    if !held.ours {
         return SHAPE as u32;
     }
-    let abandoned = transaction::abandon(records::decode(state), snapshot_of(bits, commands, time));
+    let before = held.progress;
+    let abandoned = transaction::abandon(before, snapshot_of(bits, commands, time));
     let answer = abandoned.answer;
     let progress = abandoned.progress;
     let number = transaction::abandon_number(answer);

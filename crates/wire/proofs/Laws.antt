@@ -1,17 +1,17 @@
 -- Laws of numbers in byte slices, for citing.
 -- Assumes nothing.
 use Prim.Native.Nat.{ℕ, suc, _+_, _-_, _*_, _/_, _%_, _≤_, _<_}
-use native.Mathlib.Nat.{add-assoc, add-zero, zero-add}
+use native.Mathlib.Nat.{add-zero, zero-add}
 use native.Mathlib.Numerals.{add-one}
 use native.Mathlib.Omega.{arith}
 use mathlib.Core.Path.{_≡_, refl, sym, ap, _∙_}
 use mathlib.Core.Bool.{cond}
 use mathlib.Core.List.{List, [], _∷_, _++_}
-use lib.ListN.{length, drop, set, getD, length-append}
+use lib.ListN.{length, drop, set, getD, replicate, length-append}
 use lib.Dec.{leb}
 use lib.Seq.{sets, sets-eq, paste, paste-suc, take-all, drop-cons}
 use borrow.Author.Tests.{le-leb, lt-leb}
-use Rattle.wire.specs.Numbers.{fourBytes, wordBytes, wordAt}
+use Rattle.wire.specs.Numbers.{fourBytes, wordBytes, timeAt, wordsOf}
 
 -- a word's bytes, one after another
 pub stored : (l : List ℕ) (at a b c d : ℕ) → set (set (set (set l at a) (at + 1) b) (at + 2) c) (at + 3) d ≡ sets l at (a ∷ b ∷ c ∷ d ∷ [])
@@ -47,17 +47,6 @@ word-stored words l i h =
     rw (further, add-one i, drop-cons words i 0)
     (sets-append (fourBytes (getD words i 0)) (wordBytes (drop (suc i) words)) l (i * 4))
 
--- a word, read byte by byte
-pub word-read :
-    (l : List ℕ) (at k a b c d : ℕ)
-    → a ≡ getD l (at + k) 0
-    → b ≡ getD l (at + (k + 1)) 0
-    → c ≡ getD l (at + (k + 2)) 0
-    → d ≡ getD l (at + (k + 3)) 0
-    → a * 0x1000000 + b * 0x10000 + c * 0x100 + d ≡ wordAt l (at + k)
-unfolding wordAt
-word-read l at k a b c d p q r s = rw (p, q, r, s, add-assoc at k 1, add-assoc at k 2, add-assoc at k 3)
-
 -- where there is no room, nothing; where there is, the bytes
 module _ (at n : ℕ) (l vs : List ℕ) where
   pub no-room : length l < at + n → l ≡ cond (leb (at + n) (length l)) (paste l at vs n) l
@@ -78,3 +67,10 @@ copied d r out i h k e =
     ∙ ap (λ (j : ℕ). set (paste d 0 r i) j (getD r i 0)) (sym (zero-add i))
     ∙ paste-suc d 0 r i 0 (rw (zero-add i) h) k
     ∙ ap (paste d 0 r) (sym (add-one i))
+
+-- what is read where there are so many bytes
+pub time-there : (l : List ℕ) (at t : ℕ) → at + 8 ≤ length l → t ≡ cond (leb (at + 8) (length l)) (timeAt l at) 0 → t ≡ timeAt l at
+time-there l at t h e = e ∙ rw (le-leb (at + 8) (length l) h)
+
+pub words-there : (l words : List ℕ) → 32 ≤ length l → words ≡ cond (leb 32 (length l)) (wordsOf l) (replicate 8 0) → words ≡ wordsOf l
+words-there l words h e = e ∙ rw (le-leb 32 (length l) h)

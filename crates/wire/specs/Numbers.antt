@@ -13,7 +13,7 @@ wordBytes (word ∷ words) = fourBytes word ++ wordBytes words
 abbrev pub timeBytes : ℕ → List ℕ
 timeBytes time = fourBytes (time / 0x100000000) ++ fourBytes (time % 0x100000000)
 
--- what is read at a place; bytes beyond the end read as 0
+-- what is read at a place
 unfoldable pub wordAt : List ℕ → ℕ → ℕ
 wordAt bytes at =
     getD bytes at 0 * 0x1000000 + getD bytes (at + 1) 0 * 0x10000 + getD bytes (at + 2) 0 * 0x100 + getD bytes (at + 3) 0

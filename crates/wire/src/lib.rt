@@ -1,8 +1,8 @@
 // Numbers in lent byte slices, big-endian.
 ghost use mathlib.Core.Path.{_≡_};
 ghost use mathlib.Core.Bool.{cond, _&&_};
-ghost use Prim.Native.Nat.{_+_, _≤_};
-ghost use lib.ListN.{length, getD};
+ghost use Prim.Native.Nat.{_+_, _*_, _≤_};
+ghost use lib.ListN.{length, replicate};
 ghost use lib.Seq.{paste, sets};
 ghost use lib.Dec.{leb};
 ghost use Rattle.wire.specs.Numbers.{fourBytes, wordBytes, timeBytes, wordAt, timeAt, wordsOf};
@@ -13,44 +13,29 @@ const WORDS: usize = 32;
 
 const TIME: usize = 8;
 
-// The byte so many after a place; 0 beyond the end.
-fn byte_after(bytes: &[u8], at: usize, k: usize) -> u8
-    ensures { λ r. ⌜ r ≡ getD (now (bytes .entry)) (at + k) 0 ⌝ }
+fn big_endian(first: u8, second: u8, third: u8, fourth: u8) -> u32
+    ensures { λ r. ⌜ r ≡ first * 0x1000000 + second * 0x10000 + third * 0x100 + fourth ⌝ }
 {
-    if at >= bytes.len() {
-        return 0;
-    }
-    if k >= bytes.len() - at {
-        return 0;
-    }
-    bytes[at + k]
-}
-
-fn word_after(bytes: &[u8], at: usize, k: usize) -> u32
-    requires { ⌜ k ≤ 4 ⌝ }
-    ensures { λ r. ⌜ r ≡ wordAt (now (bytes .entry)) (at + k) ⌝ }
-{
-    let first = byte_after(bytes, at, k);
-    let second = byte_after(bytes, at, k + 1);
-    let third = byte_after(bytes, at, k + 2);
-    let fourth = byte_after(bytes, at, k + 3);
     (first as u32) * 0x100_0000
         + (second as u32) * 0x1_0000
         + (third as u32) * 0x100
         + fourth as u32
 }
 
-// The word at a place; bytes beyond the end read as 0.
-pub fn word_at(bytes: &[u8], at: usize) -> u32
+fn word_at(bytes: &[u8], at: usize) -> u32
+    requires { ⌜ at + 4 ≤ length (now bytes) ⌝ }
     ensures { λ r. ⌜ r ≡ wordAt (now (bytes .entry)) at ⌝ }
 {
-    word_after(bytes, at, 0)
+    big_endian(bytes[at], bytes[at + 1], bytes[at + 2], bytes[at + 3])
 }
 
-// The eight words in front.
+// The eight words in front, where there are so many; else zeros.
 pub fn words_of(bytes: &[u8]) -> [u32; 8]
-    ensures { λ r. ⌜ r ≡ wordsOf (now (bytes .entry)) ⌝ }
+    ensures { λ r. ⌜ r ≡ cond (leb 32 (length (now (bytes .entry)))) (wordsOf (now (bytes .entry))) (replicate 8 0) ⌝ }
 {
+    if bytes.len() < WORDS {
+        return [0; 8];
+    }
     [
         word_at(bytes, 0),
         word_at(bytes, 4),
@@ -63,11 +48,17 @@ pub fn words_of(bytes: &[u8]) -> [u32; 8]
     ]
 }
 
-// The number of eight bytes at a place.
+// The number of eight bytes at a place, where there are so many; else 0.
 pub fn time_at(bytes: &[u8], at: usize) -> u64
-    ensures { λ r. ⌜ r ≡ timeAt (now (bytes .entry)) at ⌝ }
+    ensures { λ r. ⌜ r ≡ cond (leb (at + 8) (length (now (bytes .entry)))) (timeAt (now (bytes .entry)) at) 0 ⌝ }
 {
-    (word_after(bytes, at, 0) as u64) * 0x1_0000_0000 + word_after(bytes, at, WORD) as u64
+    if bytes.len() < TIME {
+        return 0;
+    }
+    if bytes.len() - TIME < at {
+        return 0;
+    }
+    (word_at(bytes, at) as u64) * 0x1_0000_0000 + word_at(bytes, at + WORD) as u64
 }
 
 fn put_word(word: u32, at: usize, out: &mut [u8])

@@ -112,6 +112,7 @@ fn ours_is_counted(thing: &str, amount: usize) -> bool {
 
 fn original_is_counted(thing: &str, amount: usize) -> bool {
     let mut buffer = vec![0; amount];
+    let mut register = 0;
     let machine = original::machine();
     original::make_room_for_pin_changes(machine);
     match thing {
@@ -129,6 +130,9 @@ fn original_is_counted(thing: &str, amount: usize) -> bool {
         "mock_fifo_writes" => collected(|| original::mock_fifo_writes(machine, &buffer)),
         "mock_fifo_reads" => collected(|| original::mock_fifo_reads(machine, &mut buffer)),
         "mock_pin_changes" => collected(|| original::mock_pin_changes(amount)),
+        "plain_fifo_writes" => collected(|| original::plain_fifo_writes(&mut register, &buffer)),
+        "plain_fifo_reads" => collected(|| original::plain_fifo_reads(&register, &mut buffer)),
+        "plain_pin_changes" => collected(|| original::plain_pin_changes(&mut register, amount)),
         _ => return false,
     }
     true

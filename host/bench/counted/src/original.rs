@@ -85,7 +85,7 @@ pub fn make_room_for_pin_changes(machine: &Machine) {
     }
 }
 
-/// What the mock FIFO costs where a part has one register.
+/// Bytes pushed into the mock FIFO.
 #[inline(never)]
 pub fn mock_fifo_writes(machine: &Machine, bytes: &[u8]) {
     for piece in bytes.chunks(31) {
@@ -106,11 +106,42 @@ pub fn mock_fifo_reads(machine: &Machine, buffer: &mut [u8]) {
     }
 }
 
-/// What the mock pins cost where a part has one register.
+/// The same bytes, each stored into one register as a part has it.
+#[inline(never)]
+pub fn plain_fifo_writes(register: &mut u8, bytes: &[u8]) {
+    for piece in bytes.chunks(31) {
+        for byte in piece {
+            // SAFETY: a reference may be written.
+            unsafe { (register as *mut u8).write_volatile(*byte) };
+        }
+    }
+}
+
+/// As many bytes, each loaded from one register as a part has it.
+#[inline(never)]
+pub fn plain_fifo_reads(register: &u8, buffer: &mut [u8]) {
+    for piece in buffer.chunks_mut(31) {
+        for byte in piece {
+            // SAFETY: a reference may be read.
+            *byte = unsafe { (register as *const u8).read_volatile() };
+        }
+    }
+}
+
+/// Levels given to a mock pin.
 #[inline(never)]
 pub fn mock_pin_changes(changes: usize) {
     let pin = unsafe { gpio::AnyPin::steal(gpio::SCL_PIN) };
     for change in 0..changes {
         pin.set_output_high(change % 2 == 0);
+    }
+}
+
+/// The same levels, each stored into one register as a part has it.
+#[inline(never)]
+pub fn plain_pin_changes(register: &mut u8, changes: usize) {
+    for change in 0..changes {
+        // SAFETY: a reference may be written.
+        unsafe { (register as *mut u8).write_volatile((change % 2 == 0) as u8) };
     }
 }

@@ -1,9 +1,11 @@
 -- `sitankulo::clear_layout::decode` meets its contract.
 -- Assumes nothing.
+use native.Mathlib.Omega.{arith}
 use lib.ListN.{length}
 use borrow.Author.Tests.{le-leb, lt-leb}
 use Rattle.sitankulo.specs.ClearLayout.{decodedOf}
 use borrow.Author.Needs.{needs}
+use Rattle.wire.proofs.Laws.{time-there}
 use Rattle.sitankulo.proofs.clear_layout.decode.Statement.{statement}
 use Rattle.sitankulo.proofs.clear_layout.decode.Tie as tie
 
@@ -26,7 +28,9 @@ decode-from-requires c κs = search needs
 returns-2 : tie.Need-returns-2
 unfolding decodedOf
 returns-2 c =
-    simp (le-leb 10 (length (c .before .before .before .before .before .before .args .memory .now)) (c .before .before .before .before .if1 .left), ← c .before .time-at .ensures) (c .decode-from .ensures)
+    let memory = c .before .before .before .before .before .before .args .memory .now in
+    let long = c .before .before .before .before .if1 .left in
+    simp (le-leb 10 (length memory) long, ← time-there memory 2 _ (omega (arith, long)) (c .before .time-at .ensures)) (c .decode-from .ensures)
 
 pub decode-spec : {M : Type 1} → statement M
 decode-spec =

@@ -1,8 +1,10 @@
 -- `sitankulo::inspecting::sitankulo_inspect` meets its contract.
 -- Assumes nothing.
+use native.Mathlib.Omega.{arith}
 use lib.ListN.{length}
 use borrow.Author.Tests.{eq-eqb, ne-eqb}
 use borrow.Author.Needs.{needs}
+use Rattle.wire.proofs.Laws.{words-there}
 use Rattle.sitankulo.proofs.inspecting.sitankulo_inspect.Statement.{statement}
 use Rattle.sitankulo.proofs.inspecting.sitankulo_inspect.Tie as tie
 
@@ -21,7 +23,7 @@ verdict-number-requires c κs = search needs
 returns-2 : tie.Need-returns-2
 returns-2 c =
     let args = c .before .before .before .before .before .before .args in
-    simp (eq-eqb (length (args .words .now)) 32 (c .before .before .before .if1 .left), ← c .before .before .words-of .ensures, ← c .before .inspect .ensures) (c .verdict-number .ensures)
+    simp (eq-eqb (length (args .words .now)) 32 (c .before .before .before .if1 .left), ← words-there (args .words .now) _ (omega (arith, c .before .before .before .if1 .left)) (c .before .before .words-of .ensures), ← c .before .inspect .ensures) (c .verdict-number .ensures)
 
 pub sitankulo-inspect-spec : {M : Type 1} → statement M
 sitankulo-inspect-spec =

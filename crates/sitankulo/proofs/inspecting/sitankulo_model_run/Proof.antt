@@ -1,7 +1,9 @@
 -- `sitankulo::inspecting::sitankulo_model_run` meets its contract.
 -- Assumes nothing.
+use native.Mathlib.Omega.{arith}
 use Rattle.sitankulo.proofs.LawsModel.{not-whole, few-told, ran}
 use borrow.Author.Needs.{needs}
+use Rattle.wire.proofs.Laws.{words-there}
 use Rattle.sitankulo.proofs.inspecting.sitankulo_model_run.Statement.{statement}
 use Rattle.sitankulo.proofs.inspecting.sitankulo_model_run.Tie as tie
 
@@ -22,7 +24,7 @@ report-number-requires c κs =
     let words = c .before .before .before .before .before .before .before .words-of in
     let run = c .before .before .before .before .run in
     few-told (args .words .now) (args .fifo .now) (args .phase) (args .sends .now) (args .refuses) (args .received .now) (args .events .now)
-    (words .result) (words .ensures) (run .result) _ _ (run .ensures)
+    (words .result) (words-there _ _ (omega (arith, c .before .before .before .before .before .before .before .before .if1 .left)) (words .ensures)) (run .result) _ _ (run .ensures)
 
 same-length : tie.Need-same-length
 same-length c = search needs
@@ -36,7 +38,7 @@ returns-2 c =
     let words = c .before .before .before .before .before .before .before .before .words-of in
     let run = c .before .before .before .before .before .run in
     ran (args .words .now) (args .fifo .now) (args .phase) (args .sends .now) (args .refuses) (args .received .now) (args .events .now)
-    (words .result) (words .ensures) (run .result) _ _ (run .ensures) (c .before .before .before .before .before .before .before .before .before .if1 .left) (c .report-number .result) (c .report-number .ensures)
+    (words .result) (words-there _ _ (omega (arith, c .before .before .before .before .before .before .before .before .before .if1 .left)) (words .ensures)) (run .result) _ _ (run .ensures) (c .before .before .before .before .before .before .before .before .before .if1 .left) (c .report-number .result) (c .report-number .ensures)
 
 pub sitankulo-model-run-spec : {M : Type 1} → statement M
 sitankulo-model-run-spec =

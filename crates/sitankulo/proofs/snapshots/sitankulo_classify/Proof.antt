@@ -1,8 +1,10 @@
 -- `sitankulo::snapshots::sitankulo_classify` meets its contract.
 -- Assumes nothing.
+use native.Mathlib.Omega.{arith}
 use lib.ListN.{length}
 use borrow.Author.Tests.{eq-eqb, ne-eqb}
 use borrow.Author.Needs.{needs}
+use Rattle.wire.proofs.Laws.{words-there}
 use Rattle.sitankulo.proofs.snapshots.sitankulo_classify.Statement.{statement}
 use Rattle.sitankulo.proofs.snapshots.sitankulo_classify.Tie as tie
 
@@ -27,7 +29,7 @@ number-requires c κs = search needs
 returns-2 : tie.Need-returns-2
 returns-2 c =
     let args = c .before .before .before .before .before .before .before .args in
-    simp (eq-eqb (length (args .commands .now)) 32 (c .before .before .before .before .before .if1 .left), ← c .before .before .before .before .words-of .ensures, ← c .before .before .before .unpack .ensures, ← c .before .before .due-at .ensures, ← c .before .classify .ensures) (c .number .ensures)
+    simp (eq-eqb (length (args .commands .now)) 32 (c .before .before .before .before .before .if1 .left), ← words-there (args .commands .now) _ (omega (arith, c .before .before .before .before .before .if1 .left)) (c .before .before .before .before .words-of .ensures), ← c .before .before .before .unpack .ensures, ← c .before .before .due-at .ensures, ← c .before .classify .ensures) (c .number .ensures)
 
 pub sitankulo-classify-spec : {M : Type 1} → statement M
 sitankulo-classify-spec =

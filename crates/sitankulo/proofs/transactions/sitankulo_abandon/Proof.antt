@@ -1,5 +1,6 @@
 -- `sitankulo::transactions::sitankulo_abandon` meets its contract.
 -- Assumes nothing.
+use native.Mathlib.Omega.{arith}
 use mathlib.Core.Path.{_≡_, sym, _∙_}
 use borrow.Author.Needs.{needs}
 use borrow.Author.Tests.{not-true, not-false}
@@ -15,8 +16,8 @@ cast-result c = search needs
 returns : tie.Need-returns
 returns c = abandon-misfit _ _ _ (c .if1 .taken)
 
-is-record-requires : tie.Need-is-record-requires
-is-record-requires c κs = search needs
+read-requires : tie.Need-read-requires
+read-requires c κs = search needs
 
 cast-result-2 : tie.Need-cast-result-2
 cast-result-2 c = search needs
@@ -25,13 +26,10 @@ same-length : tie.Need-same-length
 same-length c = search needs
 
 returns-2 : tie.Need-returns-2
-returns-2 c = abandon-foreign _ _ _ (c .before .before .before .if1 .left) (sym (c .before .is-record .ensures) ∙ not-true _ (c .if2 .taken))
-
-decode-requires : tie.Need-decode-requires
-decode-requires c κs = search needs
+returns-2 c = abandon-foreign _ _ _ (c .before .before .before .before .if1 .left) (sym (c .before .before .read .ensures .0) ∙ not-true _ (c .if2 .taken))
 
 snapshot-of-requires : tie.Need-snapshot-of-requires
-snapshot-of-requires c κs = search needs
+snapshot-of-requires c κs = omega (arith, c .before .before .before .before .before .if1 .left)
 
 abandon-requires : tie.Need-abandon-requires
 abandon-requires c κs = search needs
@@ -56,8 +54,8 @@ returns-3 c =
     let args = tested .before .before .before .before .before .args in
     let a = abandonedFor (args .state .now) (args .bits) (args .commands .now) (args .time) in
     let made : called .before .before .abandon .result ≡ a
-    = called .before .before .abandon .ensures ∙ rw (called .before .before .before .before .decode .ensures, called .before .before .before .snapshot-of .ensures) in
-    let is = sym (tested .is-record .ensures) ∙ not-false _ (called .before .before .before .before .before .before .if2 .left) in
+    = called .before .before .abandon .ensures ∙ rw (tested .read .ensures .1 (not-false _ (called .before .before .before .before .before .if2 .left)), called .before .before .before .snapshot-of .ensures) in
+    let is = sym (tested .read .ensures .0) ∙ not-false _ (called .before .before .before .before .before .if2 .left) in
     abandon-stays (args .state .now) (args .commands .now) a (tested .before .before .if1 .left) is
     (called .before .before .abandon .result) made (called .abandon-number .result) (called .abandon-number .ensures)
     (sym (c .before .does-go-ahead .ensures) ∙ not-true _ (c .if3 .taken))
@@ -67,7 +65,7 @@ encode-requires c κs =
     let called = c .before .before .before in
     let tested = called .before .before .before .before .before .before .before in
     record-long (tested .before .before .before .before .before .args .state .now)
-    (sym (tested .is-record .ensures) ∙ not-false _ (called .before .before .before .before .before .before .if2 .left))
+    (sym (tested .read .ensures .0) ∙ not-false _ (called .before .before .before .before .before .if2 .left))
 
 cast-result-4 : tie.Need-cast-result-4
 cast-result-4 c = search needs
@@ -83,8 +81,8 @@ returns-4 c =
     let args = tested .before .before .before .before .before .args in
     let a = abandonedFor (args .state .now) (args .bits) (args .commands .now) (args .time) in
     let made : called .before .before .abandon .result ≡ a
-    = called .before .before .abandon .ensures ∙ rw (called .before .before .before .before .decode .ensures, called .before .before .before .snapshot-of .ensures) in
-    let is = sym (tested .is-record .ensures) ∙ not-false _ (called .before .before .before .before .before .before .if2 .left) in
+    = called .before .before .abandon .ensures ∙ rw (tested .read .ensures .1 (not-false _ (called .before .before .before .before .before .if2 .left)), called .before .before .before .snapshot-of .ensures) in
+    let is = sym (tested .read .ensures .0) ∙ not-false _ (called .before .before .before .before .before .if2 .left) in
     abandon-ahead (args .state .now) (args .commands .now) a (tested .before .before .if1 .left) is
     (called .before .before .abandon .result) made (called .abandon-number .result) (called .abandon-number .ensures)
     (sym (c .before .before .before .before .before .does-go-ahead .ensures) ∙ not-false _ (c .before .before .before .before .if3 .left)) _ (c .before .before .encode .ensures)
@@ -95,11 +93,10 @@ sitankulo-abandon-spec =
     (tie.spec
     cast-result
     returns
-    is-record-requires
+    read-requires
     cast-result-2
     same-length
     returns-2
-    decode-requires
     snapshot-of-requires
     abandon-requires
     abandon-number-requires

@@ -1,5 +1,6 @@
 -- `sitankulo::transactions::sitankulo_complete` meets its contract.
 -- Assumes nothing.
+use native.Mathlib.Omega.{arith}
 use mathlib.Core.Path.{_≡_, sym, _∙_}
 use borrow.Author.Needs.{needs}
 use borrow.Author.Tests.{not-true, not-false}
@@ -18,8 +19,8 @@ returns c =
     let args = c .before .before .before .before .before .before .args in
     complete-misfit (args .state .now) (args .commands .now) _ _ (landedFor (args .state .now) (args .address) (args .script .now) (args .bits) (args .commands .now) (args .time) (args .received .now) (args .buffer .now)) (args .buffer .now) (c .if1 .taken)
 
-is-record-requires : tie.Need-is-record-requires
-is-record-requires c κs = search needs
+read-requires : tie.Need-read-requires
+read-requires c κs = search needs
 
 foreign-number-requires : tie.Need-foreign-number-requires
 foreign-number-requires c κs = search needs
@@ -32,15 +33,12 @@ same-length c = search needs
 
 returns-2 : tie.Need-returns-2
 returns-2 c =
-    let tested = c .before .before in
-    complete-foreign _ _ _ _ _ _ (tested .before .before .if1 .left) (sym (tested .is-record .ensures) ∙ not-true _ (c .before .if2 .taken)) (c .foreign-number .result)
+    let tested = c .before .before .before in
+    complete-foreign _ _ _ _ _ _ (tested .before .before .if1 .left) (sym (tested .read .ensures .0) ∙ not-true _ (c .before .if2 .taken)) (c .foreign-number .result)
     (c .foreign-number .ensures)
 
-decode-requires : tie.Need-decode-requires
-decode-requires c κs = search needs
-
 snapshot-of-requires : tie.Need-snapshot-of-requires
-snapshot-of-requires c κs = search needs
+snapshot-of-requires c κs = omega (arith, c .before .before .before .before .before .if1 .left)
 
 complete-requires : tie.Need-complete-requires
 complete-requires c κs = search needs
@@ -79,12 +77,12 @@ returns-3 c =
     let done = completedFor (args .state .now) (args .address) (args .script .now) (args .bits) (args .commands .now) (args .time) (args .received .now)
     (args .buffer .now) in
     let made : called .complete .result ≡ done
-    = called .complete .ensures .0 ∙ rw (called .before .before .before .decode .ensures, called .before .before .snapshot-of .ensures) in
+    = called .complete .ensures .0 ∙ rw (tested .read .ensures .1 (not-false _ (called .before .before .before .before .if2 .left)), called .before .before .snapshot-of .ensures) in
     let landed = landedFor (args .state .now) (args .address) (args .script .now) (args .bits) (args .commands .now) (args .time) (args .received .now)
     (args .buffer .now) in
     let lands : called .complete .last .1 .1 .1 .1 .1 .0 ≡ landed
-    = called .complete .ensures .1 ∙ rw (called .before .before .before .decode .ensures, called .before .before .snapshot-of .ensures) in
-    let is = sym (tested .is-record .ensures) ∙ not-false _ (called .before .before .before .before .before .if2 .left) in
+    = called .complete .ensures .1 ∙ rw (tested .read .ensures .1 (not-false _ (called .before .before .before .before .if2 .left)), called .before .before .snapshot-of .ensures) in
+    let is = sym (tested .read .ensures .0) ∙ not-false _ (called .before .before .before .before .if2 .left) in
     let script = scriptOf (args .address) (args .script .now) in
     let stays = not-landed (args .state .now) (args .address) (args .script .now) (args .bits) (args .commands .now) (args .time) (args .received .now)
     (args .buffer .now) in
@@ -98,7 +96,7 @@ encode-requires c κs =
     let called = answered .before .before .before .before in
     let tested = called .before .before .before .before .before .before in
     record-long (tested .before .before .before .before .before .before .before .before .args .state .now)
-    (sym (tested .is-record .ensures) ∙ not-false _ (called .before .before .before .before .before .if2 .left))
+    (sym (tested .read .ensures .0) ∙ not-false _ (called .before .before .before .before .if2 .left))
 
 cast-result-5 : tie.Need-cast-result-5
 cast-result-5 c = search needs
@@ -128,12 +126,12 @@ returns-4 c =
     let done = completedFor (args .state .now) (args .address) (args .script .now) (args .bits) (args .commands .now) (args .time) (args .received .now)
     (args .buffer .now) in
     let made : called .complete .result ≡ done
-    = called .complete .ensures .0 ∙ rw (called .before .before .before .decode .ensures, called .before .before .snapshot-of .ensures) in
+    = called .complete .ensures .0 ∙ rw (tested .read .ensures .1 (not-false _ (called .before .before .before .before .if2 .left)), called .before .before .snapshot-of .ensures) in
     let landed = landedFor (args .state .now) (args .address) (args .script .now) (args .bits) (args .commands .now) (args .time) (args .received .now)
     (args .buffer .now) in
     let lands : called .complete .last .1 .1 .1 .1 .1 .0 ≡ landed
-    = called .complete .ensures .1 ∙ rw (called .before .before .before .decode .ensures, called .before .before .snapshot-of .ensures) in
-    let is = sym (tested .is-record .ensures) ∙ not-false _ (called .before .before .before .before .before .if2 .left) in
+    = called .complete .ensures .1 ∙ rw (tested .read .ensures .1 (not-false _ (called .before .before .before .before .if2 .left)), called .before .before .snapshot-of .ensures) in
+    let is = sym (tested .read .ensures .0) ∙ not-false _ (called .before .before .before .before .if2 .left) in
     let script = scriptOf (args .address) (args .script .now) in
     let stays = not-landed (args .state .now) (args .address) (args .script .now) (args .bits) (args .commands .now) (args .time) (args .received .now)
     (args .buffer .now) in
@@ -147,12 +145,11 @@ sitankulo-complete-spec =
     (tie.spec
     cast-result
     returns
-    is-record-requires
+    read-requires
     foreign-number-requires
     cast-result-2
     same-length
     returns-2
-    decode-requires
     snapshot-of-requires
     complete-requires
     completion-answer-requires

@@ -16,7 +16,7 @@ few : (c : tie.After-next-number) → Few (c .before .next-list .result .list)
 few c =
     let made = c .before in
     let args = c .before .before .before .before .before .before .before .before .before .before .before .before .before .args in
-    few-handed (made .before .before .decode .result) (made .before .settings-of .result) (args .address) (args .time) (args .script .now)
+    few-handed (c .before .before .before .before .before .before .read .result .progress) (made .before .settings-of .result) (args .address) (args .time) (args .script .now)
     (made .next-list .result) (made .next-list .ensures)
 
 cast-result : tie.Need-cast-result
@@ -25,8 +25,8 @@ cast-result c = search needs
 returns : tie.Need-returns
 returns c = next-unknown _ _ _ _ _ _ (c .if1 .taken)
 
-is-record-requires : tie.Need-is-record-requires
-is-record-requires c κs = search needs
+read-requires : tie.Need-read-requires
+read-requires c κs = search needs
 
 foreign-number-requires : tie.Need-foreign-number-requires
 foreign-number-requires c κs = search needs
@@ -39,12 +39,9 @@ same-length c = search needs
 
 returns-2 : tie.Need-returns-2
 returns-2 c =
-    let tested = c .before .before in
-    next-foreign _ _ _ _ _ _ (tested .before .before .if1 .left) (sym (tested .is-record .ensures) ∙ not-true _ (c .before .if2 .taken)) (c .foreign-number .result)
+    let tested = c .before .before .before in
+    next-foreign _ _ _ _ _ _ (tested .before .before .if1 .left) (sym (tested .read .ensures .0) ∙ not-true _ (c .before .if2 .taken)) (c .foreign-number .result)
     (c .foreign-number .ensures)
-
-decode-requires : tie.Need-decode-requires
-decode-requires c κs = search needs
 
 settings-of-requires : tie.Need-settings-of-requires
 settings-of-requires c κs = search needs
@@ -69,8 +66,8 @@ returns-3 c =
     let args = tested .before .before .before .before .before .before .before .args in
     let h = handedFor (args .state .now) (args .deadline) (args .duration) (args .address) (args .script .now) (args .time) in
     let made : called .before .next-list .result ≡ h
-    = called .before .next-list .ensures ∙ rw (called .before .before .before .decode .ensures, called .before .before .settings-of .ensures) in
-    let is = sym (tested .is-record .ensures) ∙ not-false _ (called .before .before .before .before .before .if2 .left) in
+    = called .before .next-list .ensures ∙ rw (tested .read .ensures .1 (not-false _ (called .before .before .before .before .if2 .left)), called .before .before .settings-of .ensures) in
+    let is = sym (tested .read .ensures .0) ∙ not-false _ (called .before .before .before .before .if2 .left) in
     let script = scriptOf (args .address) (args .script .now) in
     next-none (args .deadline) (args .state .now) script h (args .words .now) (args .fifo .now)
     (tested .before .before .if1 .left) is (called .before .next-list .result) made (called .next-number .result)
@@ -90,8 +87,8 @@ returns-4 c =
     let args = tested .before .before .before .before .before .before .before .args in
     let h = handedFor (args .state .now) (args .deadline) (args .duration) (args .address) (args .script .now) (args .time) in
     let made : called .before .next-list .result ≡ h
-    = called .before .next-list .ensures ∙ rw (called .before .before .before .decode .ensures, called .before .before .settings-of .ensures) in
-    let is = sym (tested .is-record .ensures) ∙ not-false _ (called .before .before .before .before .before .if2 .left) in
+    = called .before .next-list .ensures ∙ rw (tested .read .ensures .1 (not-false _ (called .before .before .before .before .if2 .left)), called .before .before .settings-of .ensures) in
+    let is = sym (tested .read .ensures .0) ∙ not-false _ (called .before .before .before .before .if2 .left) in
     let script = scriptOf (args .address) (args .script .now) in
     next-wordless (args .deadline) (args .state .now) script h (args .words .now) (args .fifo .now)
     (tested .before .before .if1 .left) is (called .before .next-list .result) made (called .next-number .result)
@@ -111,8 +108,8 @@ returns-5 c =
     let args = tested .before .before .before .before .before .before .before .args in
     let h = handedFor (args .state .now) (args .deadline) (args .duration) (args .address) (args .script .now) (args .time) in
     let made : called .before .next-list .result ≡ h
-    = called .before .next-list .ensures ∙ rw (called .before .before .before .decode .ensures, called .before .before .settings-of .ensures) in
-    let is = sym (tested .is-record .ensures) ∙ not-false _ (called .before .before .before .before .before .if2 .left) in
+    = called .before .next-list .ensures ∙ rw (tested .read .ensures .1 (not-false _ (called .before .before .before .before .if2 .left)), called .before .before .settings-of .ensures) in
+    let is = sym (tested .read .ensures .0) ∙ not-false _ (called .before .before .before .before .if2 .left) in
     let script = scriptOf (args .address) (args .script .now) in
     next-roomless (args .deadline) (args .state .now) script h (args .words .now) (args .fifo .now)
     (tested .before .before .if1 .left) is (called .before .next-list .result) made (called .next-number .result)
@@ -124,7 +121,7 @@ encode-requires c κs =
     let called = handed .before .before .before .before in
     let tested = called .before .before .before .before .before .before in
     record-long (tested .before .before .before .before .before .before .before .args .state .now)
-    (sym (tested .is-record .ensures) ∙ not-false _ (called .before .before .before .before .before .if2 .left))
+    (sym (tested .read .ensures .0) ∙ not-false _ (called .before .before .before .before .if2 .left))
 
 put-words-requires : tie.Need-put-words-requires
 put-words-requires c κs = search needs
@@ -168,8 +165,8 @@ returns-6 c =
     let args = tested .before .before .before .before .before .before .before .args in
     let h = handedFor (args .state .now) (args .deadline) (args .duration) (args .address) (args .script .now) (args .time) in
     let made : called .before .next-list .result ≡ h
-    = called .before .next-list .ensures ∙ rw (called .before .before .before .decode .ensures, called .before .before .settings-of .ensures) in
-    let is = sym (tested .is-record .ensures) ∙ not-false _ (called .before .before .before .before .before .if2 .left) in
+    = called .before .next-list .ensures ∙ rw (tested .read .ensures .1 (not-false _ (called .before .before .before .before .if2 .left)), called .before .before .settings-of .ensures) in
+    let is = sym (tested .read .ensures .0) ∙ not-false _ (called .before .before .before .before .if2 .left) in
     let script = scriptOf (args .address) (args .script .now) in
     next-listed (args .deadline) (args .state .now) script h (args .words .now) (args .fifo .now)
     (tested .before .before .if1 .left) is (called .before .next-list .result) made (called .next-number .result)
@@ -182,12 +179,11 @@ sitankulo-next-spec =
     (tie.spec
     cast-result
     returns
-    is-record-requires
+    read-requires
     foreign-number-requires
     cast-result-2
     same-length
     returns-2
-    decode-requires
     settings-of-requires
     next-list-requires
     next-number-requires
