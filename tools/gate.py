@@ -55,6 +55,12 @@ def last_line_counts(lines):
     return (int(tally[1]), int(tally[2])) if tally else (0, 0)
 
 
+def as_one(lines):
+    """A part whose last line counts what it compared is one test."""
+    compared, differed = last_line_counts(lines)
+    return (1, 0) if compared and not differed else (0, min(differed, 1))
+
+
 def rt_counts(lines):
     """The last line counts crates and must-fail edits; the programs that ran well are counted here."""
     passed, failed = last_line_counts(lines)
@@ -95,6 +101,13 @@ def host_tests():
     return parts
 
 
+def c_calls():
+    """The library for C, built from what `rt ci` has proved."""
+    make = ['make', '--no-print-directory']
+    return [part('C calls', make + ['ctest'], last_line_counts),
+            part('C calls against the Rust original', make + ['soak', 'COUNT=300000'], as_one)]
+
+
 # ---- the end
 
 def print_times(parts):
@@ -110,7 +123,7 @@ def print_times(parts):
 
 def main():
     sys.stdout.reconfigure(encoding='utf-8', errors='replace', line_buffering=True)
-    parts = proofs() + rules() + host_tests()
+    parts = proofs() + rules() + host_tests() + c_calls()
     print_times(parts)
     failed = sum(each.failed for each in parts)
     print(f'{sum(each.passed for each in parts)} passed, {failed} failed')
