@@ -16,6 +16,7 @@ use Rattle.refusal.specs.Numbers.{numberOf}
 use Rattle.outcome.specs.declared.Error.the-variants.{ExecutionIncomplete, AcknowledgeCheckFailed, ArbitrationLost, Timeout}
 use Rattle.outcome.specs.declared.Outcome.the-variants.{Pending, Done, Failed}
 use Rattle.outcome.specs.declared.Answer.{Answer}
+use Rattle.outcome.specs.declared.Snapshot.{Snapshot}
 use Rattle.script.specs.declared.Verdict.the-variants as verdict
 use Rattle.script.specs.Scripts.{Script, asks, refused, scriptOf, answerOf}
 use Rattle.script.proofs.LawsAccepted.{refused-by, accepted-asks}
@@ -27,10 +28,12 @@ use Rattle.transaction.specs.declared.Completion.{Completion}
 use Rattle.transaction.specs.declared.Completion.the-variants as completion
 use Rattle.transaction.specs.declared.Completed.{Completed}
 use Rattle.transaction.specs.declared.Abandoned.{Abandoned}
-use Rattle.transaction.specs.Calls.{succeeded, bufferOf}
+use Rattle.transaction.specs.declared.Progress.{Progress}
+use Rattle.transaction.specs.declared.Settings.{Settings}
+use Rattle.transaction.specs.Calls.{succeeded, nextOf, completeOf, bufferOf, abandonOf}
 use Rattle.transaction.specs.Numbers.{beginNumber, nextNumber, completionAnswer, abandonNumber}
-use Rattle.sitankulo.specs.Records.{isRecord}
-use Rattle.sitankulo.specs.Transactions.{numberIn, succeeds, goesAhead, renewed, foreignNumber, roomless, beginAnswer, listAnswer, nextAnswer, tells, saying, completedFor, landedFor, completeAnswer, abandonAnswer}
+use Rattle.sitankulo.specs.Records.{recordIn, isRecord}
+use Rattle.sitankulo.specs.Transactions.{numberIn, succeeds, goesAhead, renewed, settingsOf, snapshotOf, foreignNumber, roomless, beginAnswer, listAnswer, handedFor, nextAnswer, tells, saying, completedFor, landedFor, completeAnswer, abandonedFor, abandonAnswer}
 use Rattle.wire.specs.Numbers.{wordBytes}
 use Rattle.sitankulo.proofs.LawsHanded.{Few}
 
@@ -41,6 +44,30 @@ module _ (address : ℕ) (script : List ℕ) where
 
   pub foreign-accepted : (total : ℕ) → verdict.Accepted total ≡ answerOf (scriptOf address script) → 5 ≡ foreignNumber (scriptOf address script)
   foreign-accepted total e = rw (accepted-asks (scriptOf address script) total e)
+
+-- WHAT IS ASKED OF A TRANSACTION, once the record and what comes with it are read out of the lent memory
+module _ (state : List ℕ) (p : Progress) (read : p ≡ recordIn state) where
+  pub handed-for :
+      (kind duration address : ℕ) (script : List ℕ) (time : ℕ) (settings : Settings)
+      → settings ≡ settingsOf kind duration
+      → nextOf p settings address script time ≡ handedFor state kind duration address script time
+  unfolding handedFor
+  handed-for kind duration address script time settings e = rw (read, e)
+
+  module _ (bits : ℕ) (commands : List ℕ) (time : ℕ) (snapshot : Snapshot) (e : snapshot ≡ snapshotOf bits commands time) where
+    module _ (address : ℕ) (script received buffer : List ℕ) where
+      pub completed-for :
+          completeOf p address script snapshot received buffer ≡ completedFor state address script bits commands time received buffer
+      unfolding completedFor
+      completed-for = rw (read, e)
+
+      pub landed-for : bufferOf p address script snapshot received buffer ≡ landedFor state address script bits commands time received buffer
+      unfolding landedFor
+      landed-for = rw (read, e)
+
+    pub abandoned-for : abandonOf p snapshot ≡ abandonedFor state bits commands time
+    unfolding abandonedFor
+    abandoned-for = rw (read, e)
 
 -- BEGIN
 module _ (kind : ℕ) (state : List ℕ) (b made : Begun) (e : made ≡ b) (n : ℕ) (told : n ≡ beginNumber (made .answer)) where

@@ -2,13 +2,36 @@
 -- Assumes nothing.
 use native.Mathlib.Omega.{arith}
 use mathlib.Core.Path.{_≡_, sym, _∙_}
+use mathlib.Core.Bool.{true}
+use lib.ListN.{length}
 use borrow.Author.Needs.{needs}
 use borrow.Author.Tests.{not-true, not-false}
+use Rattle.sitankulo.specs.Records.{isRecord}
 use Rattle.sitankulo.specs.Transactions.{abandonedFor}
 use Rattle.sitankulo.proofs.LawsRecords.{record-long}
-use Rattle.sitankulo.proofs.LawsTransactions.{abandon-misfit, abandon-foreign, abandon-stays, abandon-ahead}
+use Rattle.sitankulo.proofs.LawsTransactions.{abandoned-for, abandon-misfit, abandon-foreign, abandon-stays, abandon-ahead}
 use Rattle.sitankulo.proofs.transactions.sitankulo_abandon.Statement.{statement}
 use Rattle.sitankulo.proofs.transactions.sitankulo_abandon.Tie as tie
+
+-- where the call began
+abbrev began : tie.After-abandon → tie.Start
+began c = c .before .before .before .before .before .before .before .before .before .before
+
+fit : (c : tie.After-abandon) → length (began c .args .commands .now) ≡ 32
+fit c = c .before .before .before .before .before .before .before .if1 .left
+
+ours : (c : tie.After-abandon) → isRecord (began c .args .state .now) ≡ true
+ours c = sym (c .before .before .before .before .before .read .ensures .0) ∙ not-false _ (c .before .before .before .if2 .left)
+
+made :
+    (c : tie.After-abandon)
+    → c .abandon .result ≡ abandonedFor (began c .args .state .now) (began c .args .bits) (began c .args .commands .now) (began c .args .time)
+made c =
+    let read = c .before .before .before .before .before .read in
+    let args = began c .args in
+    c .abandon .ensures
+    ∙ abandoned-for (args .state .now) (read .result .progress) (read .ensures .1 (not-false _ (c .before .before .before .if2 .left)))
+    (args .bits) (args .commands .now) (args .time) _ (c .before .snapshot-of .ensures)
 
 cast-result : tie.Need-cast-result
 cast-result c = search needs
@@ -47,25 +70,16 @@ same-length-2 : tie.Need-same-length-2
 same-length-2 c = search needs
 
 returns-3 : tie.Need-returns-3
-unfolding abandonedFor
 returns-3 c =
-    let called = c .before .before in
-    let tested = called .before .before .before .before .before .before .before in
-    let args = tested .before .before .before .before .before .args in
-    let a = abandonedFor (args .state .now) (args .bits) (args .commands .now) (args .time) in
-    let made : called .before .before .abandon .result ≡ a
-    = called .before .before .abandon .ensures ∙ rw (tested .read .ensures .1 (not-false _ (called .before .before .before .before .before .if2 .left)), called .before .before .before .snapshot-of .ensures) in
-    let is = sym (tested .read .ensures .0) ∙ not-false _ (called .before .before .before .before .before .if2 .left) in
-    abandon-stays (args .state .now) (args .commands .now) a (tested .before .before .if1 .left) is
-    (called .before .before .abandon .result) made (called .abandon-number .result) (called .abandon-number .ensures)
+    let numbered = c .before .before in
+    let called = numbered .before .before in
+    abandon-stays _ _ _ (fit called) (ours called) _ (made called) _ (numbered .abandon-number .ensures)
     (sym (c .before .does-go-ahead .ensures) ∙ not-true _ (c .if3 .taken))
 
 encode-requires : tie.Need-encode-requires
 encode-requires c κs =
-    let called = c .before .before .before in
-    let tested = called .before .before .before .before .before .before .before in
-    record-long (tested .before .before .before .before .before .args .state .now)
-    (sym (tested .read .ensures .0) ∙ not-false _ (called .before .before .before .before .before .if2 .left))
+    let called = c .before .before .before .before .before in
+    record-long (began called .args .state .now) (ours called)
 
 cast-result-4 : tie.Need-cast-result-4
 cast-result-4 c = search needs
@@ -74,18 +88,12 @@ same-length-3 : tie.Need-same-length-3
 same-length-3 c = search needs
 
 returns-4 : tie.Need-returns-4
-unfolding abandonedFor
 returns-4 c =
-    let called = c .before .before .before .before .before .before in
-    let tested = called .before .before .before .before .before .before .before in
-    let args = tested .before .before .before .before .before .args in
-    let a = abandonedFor (args .state .now) (args .bits) (args .commands .now) (args .time) in
-    let made : called .before .before .abandon .result ≡ a
-    = called .before .before .abandon .ensures ∙ rw (tested .read .ensures .1 (not-false _ (called .before .before .before .before .before .if2 .left)), called .before .before .before .snapshot-of .ensures) in
-    let is = sym (tested .read .ensures .0) ∙ not-false _ (called .before .before .before .before .before .if2 .left) in
-    abandon-ahead (args .state .now) (args .commands .now) a (tested .before .before .if1 .left) is
-    (called .before .before .abandon .result) made (called .abandon-number .result) (called .abandon-number .ensures)
-    (sym (c .before .before .before .before .before .does-go-ahead .ensures) ∙ not-false _ (c .before .before .before .before .if3 .left)) _ (c .before .before .encode .ensures)
+    let numbered = c .before .before .before .before .before .before in
+    let called = numbered .before .before in
+    abandon-ahead _ _ _ (fit called) (ours called) _ (made called) _ (numbered .abandon-number .ensures)
+    (sym (c .before .before .before .before .before .does-go-ahead .ensures) ∙ not-false _ (c .before .before .before .before .if3 .left))
+    _ (c .before .before .encode .ensures)
 
 pub sitankulo-abandon-spec : {M : Type 1} → statement M
 sitankulo-abandon-spec =

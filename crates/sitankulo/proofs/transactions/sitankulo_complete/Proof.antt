@@ -2,14 +2,51 @@
 -- Assumes nothing.
 use native.Mathlib.Omega.{arith}
 use mathlib.Core.Path.{_≡_, sym, _∙_}
+use mathlib.Core.Bool.{true}
+use lib.ListN.{length}
 use borrow.Author.Needs.{needs}
 use borrow.Author.Tests.{not-true, not-false}
-use Rattle.script.specs.Scripts.{scriptOf}
+use Rattle.sitankulo.specs.Records.{recordIn, isRecord}
 use Rattle.sitankulo.specs.Transactions.{completedFor, landedFor}
 use Rattle.sitankulo.proofs.LawsRecords.{record-long}
-use Rattle.sitankulo.proofs.LawsTransactions.{not-landed, complete-misfit, complete-foreign, complete-silent, complete-told}
+use Rattle.sitankulo.proofs.LawsTransactions.{completed-for, landed-for, not-landed, complete-misfit, complete-foreign, complete-silent, complete-told}
 use Rattle.sitankulo.proofs.transactions.sitankulo_complete.Statement.{statement}
 use Rattle.sitankulo.proofs.transactions.sitankulo_complete.Tie as tie
+
+-- where the call began
+abbrev began : tie.After-complete → tie.Start
+began c = c .before .before .before .before .before .before .before .before .before .before .before .before .before .before
+
+fit : (c : tie.After-complete) → length (began c .args .commands .now) ≡ 32
+fit c = c .before .before .before .before .before .before .before .before .if1 .left
+
+ours : (c : tie.After-complete) → isRecord (began c .args .state .now) ≡ true
+ours c = sym (c .before .before .before .before .before .before .read .ensures .0) ∙ not-false _ (c .before .before .before .before .if2 .left)
+
+said : (c : tie.After-complete) → c .before .before .before .before .before .before .read .result .progress ≡ recordIn (began c .args .state .now)
+said c = c .before .before .before .before .before .before .read .ensures .1 (not-false _ (c .before .before .before .before .if2 .left))
+
+made :
+    (c : tie.After-complete)
+    → c .complete .result
+    ≡ completedFor (began c .args .state .now) (began c .args .address) (began c .args .script .now) (began c .args .bits)
+    (began c .args .commands .now) (began c .args .time) (began c .args .received .now) (began c .args .buffer .now)
+made c =
+    let args = began c .args in
+    c .complete .ensures .0
+    ∙ completed-for (args .state .now) _ (said c) (args .bits) (args .commands .now) (args .time) _ (c .before .before .snapshot-of .ensures)
+    (args .address) (args .script .now) (args .received .now) (args .buffer .now)
+
+lands :
+    (c : tie.After-complete)
+    → c .complete .last .1 .1 .1 .1 .1 .0
+    ≡ landedFor (began c .args .state .now) (began c .args .address) (began c .args .script .now) (began c .args .bits)
+    (began c .args .commands .now) (began c .args .time) (began c .args .received .now) (began c .args .buffer .now)
+lands c =
+    let args = began c .args in
+    c .complete .ensures .1
+    ∙ landed-for (args .state .now) _ (said c) (args .bits) (args .commands .now) (args .time) _ (c .before .before .snapshot-of .ensures)
+    (args .address) (args .script .now) (args .received .now) (args .buffer .now)
 
 cast-result : tie.Need-cast-result
 cast-result c = search needs
@@ -68,35 +105,16 @@ same-length-3 : tie.Need-same-length-3
 same-length-3 c = search needs
 
 returns-3 : tie.Need-returns-3
-unfolding completedFor landedFor
 returns-3 c =
     let answered = c .before .before in
     let called = answered .before .before .before .before in
-    let tested = called .before .before .before .before .before .before in
-    let args = tested .before .before .before .before .before .before .before .before .args in
-    let done = completedFor (args .state .now) (args .address) (args .script .now) (args .bits) (args .commands .now) (args .time) (args .received .now)
-    (args .buffer .now) in
-    let made : called .complete .result ≡ done
-    = called .complete .ensures .0 ∙ rw (tested .read .ensures .1 (not-false _ (called .before .before .before .before .if2 .left)), called .before .before .snapshot-of .ensures) in
-    let landed = landedFor (args .state .now) (args .address) (args .script .now) (args .bits) (args .commands .now) (args .time) (args .received .now)
-    (args .buffer .now) in
-    let lands : called .complete .last .1 .1 .1 .1 .1 .0 ≡ landed
-    = called .complete .ensures .1 ∙ rw (tested .read .ensures .1 (not-false _ (called .before .before .before .before .if2 .left)), called .before .before .snapshot-of .ensures) in
-    let is = sym (tested .read .ensures .0) ∙ not-false _ (called .before .before .before .before .if2 .left) in
-    let script = scriptOf (args .address) (args .script .now) in
-    let stays = not-landed (args .state .now) (args .address) (args .script .now) (args .bits) (args .commands .now) (args .time) (args .received .now)
-    (args .buffer .now) in
-    complete-silent (args .state .now) (args .commands .now) script done landed (args .buffer .now)
-    (tested .before .before .if1 .left) is (called .complete .result) made (answered .completion-answer .result) (answered .completion-answer .ensures) stays _ lands
+    complete-silent _ _ _ _ _ _ (fit called) (ours called) _ (made called) _ (answered .completion-answer .ensures) (not-landed _ _ _ _ _ _ _ _) _ (lands called)
     (sym (c .before .does-tell .ensures) ∙ not-true _ (c .if3 .taken))
 
 encode-requires : tie.Need-encode-requires
 encode-requires c κs =
-    let answered = c .before .before .before in
-    let called = answered .before .before .before .before in
-    let tested = called .before .before .before .before .before .before in
-    record-long (tested .before .before .before .before .before .before .before .before .args .state .now)
-    (sym (tested .read .ensures .0) ∙ not-false _ (called .before .before .before .before .if2 .left))
+    let called = c .before .before .before .before .before .before .before in
+    record-long (began called .args .state .now) (ours called)
 
 cast-result-5 : tie.Need-cast-result-5
 cast-result-5 c = search needs
@@ -117,27 +135,12 @@ same-length-5 : tie.Need-same-length-5
 same-length-5 c = search needs
 
 returns-4 : tie.Need-returns-4
-unfolding completedFor landedFor
 returns-4 c =
     let answered = c .before .before .before .before .before .before in
     let called = answered .before .before .before .before in
-    let tested = called .before .before .before .before .before .before in
-    let args = tested .before .before .before .before .before .before .before .before .args in
-    let done = completedFor (args .state .now) (args .address) (args .script .now) (args .bits) (args .commands .now) (args .time) (args .received .now)
-    (args .buffer .now) in
-    let made : called .complete .result ≡ done
-    = called .complete .ensures .0 ∙ rw (tested .read .ensures .1 (not-false _ (called .before .before .before .before .if2 .left)), called .before .before .snapshot-of .ensures) in
-    let landed = landedFor (args .state .now) (args .address) (args .script .now) (args .bits) (args .commands .now) (args .time) (args .received .now)
-    (args .buffer .now) in
-    let lands : called .complete .last .1 .1 .1 .1 .1 .0 ≡ landed
-    = called .complete .ensures .1 ∙ rw (tested .read .ensures .1 (not-false _ (called .before .before .before .before .if2 .left)), called .before .before .snapshot-of .ensures) in
-    let is = sym (tested .read .ensures .0) ∙ not-false _ (called .before .before .before .before .if2 .left) in
-    let script = scriptOf (args .address) (args .script .now) in
-    let stays = not-landed (args .state .now) (args .address) (args .script .now) (args .bits) (args .commands .now) (args .time) (args .received .now)
-    (args .buffer .now) in
-    complete-told (args .state .now) (args .commands .now) script done landed (args .buffer .now)
-    (tested .before .before .if1 .left) is (called .complete .result) made (answered .completion-answer .result) (answered .completion-answer .ensures) stays _ lands
-    (sym (c .before .before .before .before .before .does-tell .ensures) ∙ not-false _ (c .before .before .before .before .if3 .left)) _ (c .before .before .encode .ensures)
+    complete-told _ _ _ _ _ _ (fit called) (ours called) _ (made called) _ (answered .completion-answer .ensures) (not-landed _ _ _ _ _ _ _ _) _ (lands called)
+    (sym (c .before .before .before .before .before .does-tell .ensures) ∙ not-false _ (c .before .before .before .before .if3 .left))
+    _ (c .before .before .encode .ensures)
 
 pub sitankulo-complete-spec : {M : Type 1} → statement M
 sitankulo-complete-spec =

@@ -1,23 +1,46 @@
 -- `sitankulo::transactions::sitankulo_next` meets its contract.
 -- Assumes nothing.
+use Prim.Native.Nat.{_≤_}
 use native.Mathlib.Omega.{arith}
 use mathlib.Core.Path.{_≡_, sym, _∙_}
+use mathlib.Core.Bool.{true}
 use borrow.Author.Needs.{needs}
 use borrow.Author.Tests.{not-true, not-false}
-use Rattle.script.specs.Scripts.{scriptOf}
+use Rattle.sitankulo.specs.Records.{isRecord}
 use Rattle.sitankulo.specs.Transactions.{handedFor}
 use Rattle.sitankulo.proofs.LawsHanded.{Few, few-handed}
 use Rattle.sitankulo.proofs.LawsRecords.{record-long}
-use Rattle.sitankulo.proofs.LawsTransactions.{next-unknown, next-foreign, next-none, next-wordless, next-roomless, next-listed}
+use Rattle.sitankulo.proofs.LawsTransactions.{handed-for, next-unknown, next-foreign, next-none, next-wordless, next-roomless, next-listed}
 use Rattle.sitankulo.proofs.transactions.sitankulo_next.Statement.{statement}
 use Rattle.sitankulo.proofs.transactions.sitankulo_next.Tie as tie
 
+-- where the call began
+abbrev began : tie.After-next-number → tie.Start
+began c = c .before .before .before .before .before .before .before .before .before .before .before .before .before
+
+known : (c : tie.After-next-number) → began c .args .deadline ≤ 2
+known c = c .before .before .before .before .before .before .before .before .if1 .left
+
+ours : (c : tie.After-next-number) → isRecord (began c .args .state .now) ≡ true
+ours c = sym (c .before .before .before .before .before .before .read .ensures .0) ∙ not-false _ (c .before .before .before .before .if2 .left)
+
+made :
+    (c : tie.After-next-number)
+    → c .before .next-list .result
+    ≡ handedFor (began c .args .state .now) (began c .args .deadline) (began c .args .duration) (began c .args .address)
+    (began c .args .script .now) (began c .args .time)
+made c =
+    let read = c .before .before .before .before .before .before .read in
+    let args = began c .args in
+    c .before .next-list .ensures
+    ∙ handed-for (args .state .now) (read .result .progress) (read .ensures .1 (not-false _ (c .before .before .before .before .if2 .left)))
+    (args .deadline) (args .duration) (args .address) (args .script .now) (args .time) _ (c .before .before .settings-of .ensures)
+
 few : (c : tie.After-next-number) → Few (c .before .next-list .result .list)
 few c =
-    let made = c .before in
-    let args = c .before .before .before .before .before .before .before .before .before .before .before .before .before .args in
-    few-handed (c .before .before .before .before .before .before .read .result .progress) (made .before .settings-of .result) (args .address) (args .time) (args .script .now)
-    (made .next-list .result) (made .next-list .ensures)
+    let args = began c .args in
+    few-handed (c .before .before .before .before .before .before .read .result .progress) (c .before .before .settings-of .result)
+    (args .address) (args .time) (args .script .now) (c .before .next-list .result) (c .before .next-list .ensures)
 
 cast-result : tie.Need-cast-result
 cast-result c = search needs
@@ -59,19 +82,9 @@ same-length-2 : tie.Need-same-length-2
 same-length-2 c = search needs
 
 returns-3 : tie.Need-returns-3
-unfolding handedFor
 returns-3 c =
     let called = c .before in
-    let tested = called .before .before .before .before .before .before in
-    let args = tested .before .before .before .before .before .before .before .args in
-    let h = handedFor (args .state .now) (args .deadline) (args .duration) (args .address) (args .script .now) (args .time) in
-    let made : called .before .next-list .result ≡ h
-    = called .before .next-list .ensures ∙ rw (tested .read .ensures .1 (not-false _ (called .before .before .before .before .if2 .left)), called .before .before .settings-of .ensures) in
-    let is = sym (tested .read .ensures .0) ∙ not-false _ (called .before .before .before .before .if2 .left) in
-    let script = scriptOf (args .address) (args .script .now) in
-    next-none (args .deadline) (args .state .now) script h (args .words .now) (args .fifo .now)
-    (tested .before .before .if1 .left) is (called .before .next-list .result) made (called .next-number .result)
-    (called .next-number .ensures) (c .if3 .taken)
+    next-none _ _ _ _ _ _ (known called) (ours called) _ (made called) _ (called .next-number .ensures) (c .if3 .taken)
 
 cast-result-4 : tie.Need-cast-result-4
 cast-result-4 c = search needs
@@ -80,19 +93,10 @@ same-length-3 : tie.Need-same-length-3
 same-length-3 c = search needs
 
 returns-4 : tie.Need-returns-4
-unfolding handedFor
 returns-4 c =
     let called = c .before .before .before in
-    let tested = called .before .before .before .before .before .before in
-    let args = tested .before .before .before .before .before .before .before .args in
-    let h = handedFor (args .state .now) (args .deadline) (args .duration) (args .address) (args .script .now) (args .time) in
-    let made : called .before .next-list .result ≡ h
-    = called .before .next-list .ensures ∙ rw (tested .read .ensures .1 (not-false _ (called .before .before .before .before .if2 .left)), called .before .before .settings-of .ensures) in
-    let is = sym (tested .read .ensures .0) ∙ not-false _ (called .before .before .before .before .if2 .left) in
-    let script = scriptOf (args .address) (args .script .now) in
-    next-wordless (args .deadline) (args .state .now) script h (args .words .now) (args .fifo .now)
-    (tested .before .before .if1 .left) is (called .before .next-list .result) made (called .next-number .result)
-    (called .next-number .ensures) (c .before .before .if3 .left) (c .if4 .taken)
+    next-wordless _ _ _ _ _ _ (known called) (ours called) _ (made called) _ (called .next-number .ensures) (c .before .before .if3 .left)
+    (c .if4 .taken)
 
 cast-result-5 : tie.Need-cast-result-5
 cast-result-5 c = search needs
@@ -101,27 +105,15 @@ same-length-4 : tie.Need-same-length-4
 same-length-4 c = search needs
 
 returns-5 : tie.Need-returns-5
-unfolding handedFor
 returns-5 c =
     let called = c .before .before .before .before in
-    let tested = called .before .before .before .before .before .before in
-    let args = tested .before .before .before .before .before .before .before .args in
-    let h = handedFor (args .state .now) (args .deadline) (args .duration) (args .address) (args .script .now) (args .time) in
-    let made : called .before .next-list .result ≡ h
-    = called .before .next-list .ensures ∙ rw (tested .read .ensures .1 (not-false _ (called .before .before .before .before .if2 .left)), called .before .before .settings-of .ensures) in
-    let is = sym (tested .read .ensures .0) ∙ not-false _ (called .before .before .before .before .if2 .left) in
-    let script = scriptOf (args .address) (args .script .now) in
-    next-roomless (args .deadline) (args .state .now) script h (args .words .now) (args .fifo .now)
-    (tested .before .before .if1 .left) is (called .before .next-list .result) made (called .next-number .result)
-    (called .next-number .ensures) (c .before .before .before .if3 .left) (c .before .if4 .left) (c .if5 .taken)
+    next-roomless _ _ _ _ _ _ (known called) (ours called) _ (made called) _ (called .next-number .ensures) (c .before .before .before .if3 .left)
+    (c .before .if4 .left) (c .if5 .taken)
 
 encode-requires : tie.Need-encode-requires
 encode-requires c κs =
-    let handed = c .before .before .before .before in
-    let called = handed .before .before .before .before in
-    let tested = called .before .before .before .before .before .before in
-    record-long (tested .before .before .before .before .before .before .before .args .state .now)
-    (sym (tested .read .ensures .0) ∙ not-false _ (called .before .before .before .before .if2 .left))
+    let called = c .before .before .before .before .before .before .before .before in
+    record-long (began called .args .state .now) (ours called)
 
 put-words-requires : tie.Need-put-words-requires
 put-words-requires c κs = search needs
@@ -157,21 +149,13 @@ same-length-7 : tie.Need-same-length-7
 same-length-7 c = search needs
 
 returns-6 : tie.Need-returns-6
-unfolding handedFor
 returns-6 c =
-    let handed = c .before .before .before .before .before .before .before .before .before .before .before .before .before .before .before .before in
+    let stored = c .before .before .before .before .before .before .before .before .before .before .before in
+    let handed = stored .before .before .before .before .before in
     let called = handed .before .before .before .before in
-    let tested = called .before .before .before .before .before .before in
-    let args = tested .before .before .before .before .before .before .before .args in
-    let h = handedFor (args .state .now) (args .deadline) (args .duration) (args .address) (args .script .now) (args .time) in
-    let made : called .before .next-list .result ≡ h
-    = called .before .next-list .ensures ∙ rw (tested .read .ensures .1 (not-false _ (called .before .before .before .before .if2 .left)), called .before .before .settings-of .ensures) in
-    let is = sym (tested .read .ensures .0) ∙ not-false _ (called .before .before .before .before .if2 .left) in
-    let script = scriptOf (args .address) (args .script .now) in
-    next-listed (args .deadline) (args .state .now) script h (args .words .now) (args .fifo .now)
-    (tested .before .before .if1 .left) is (called .before .next-list .result) made (called .next-number .result)
-    (called .next-number .ensures) (handed .before .before .before .if3 .left) (handed .before .if4 .left) (handed .if5 .left)
-    (few called) _ _ _ (c .before .before .before .before .before .before .before .before .before .before .before .encode .ensures) (c .before .before .before .before .before .before .before .put-words .ensures) (c .before .before .put-bytes .ensures)
+    next-listed _ _ _ _ (began called .args .words .now) (began called .args .fifo .now) (known called) (ours called) _ (made called) _ (called .next-number .ensures) (handed .before .before .before .if3 .left)
+    (handed .before .if4 .left) (handed .if5 .left) (few called) _ _ _
+    (stored .encode .ensures) (c .before .before .before .before .before .before .before .put-words .ensures) (c .before .before .put-bytes .ensures)
 
 pub sitankulo-next-spec : {M : Type 1} → statement M
 sitankulo-next-spec =
