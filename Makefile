@@ -1,4 +1,4 @@
-.PHONY: test run rules fmt clean lib install ctest soak bench
+.PHONY: test run rules fmt clean lib install ctest soak fuzz bench
 
 # The gate: everything that must hold.
 test:
@@ -45,6 +45,11 @@ SEED =
 
 soak: lib
 	@$(MAKE) --no-print-directory -C host/c soak COUNT=$(COUNT) SECONDS=$(SECONDS) SEED=$(SEED)
+
+# The C calls on inputs that libFuzzer makes up, against the Rust original: make fuzz SECONDS=600 SEED=1
+fuzz: SECONDS = 60
+fuzz: lib
+	@python3 host/fuzz/fuzz.py $(SECONDS) $(SEED)
 
 # Instructions of the C calls and of the Rust original, counted by callgrind.
 bench: lib

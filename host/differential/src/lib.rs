@@ -17,10 +17,11 @@ mod transactions;
 
 pub use clears::{RunQuestion, StepQuestion};
 pub use fixed::fixed_list;
-pub use leaves::{Leaf, Observed};
+pub use leaves::{Leaf, Observed, numbered};
 pub use lists::{Kind, ListQuestion, PARTS};
 pub use program::{committed, run};
 pub use question::{Question, disagreements};
 pub use random::Random;
 pub use scripts::{Starts, operations, read_total, with_body, written};
+pub use told::Told;
 pub use transactions::{Moment, Odd, Short, Transaction};

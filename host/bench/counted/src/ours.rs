@@ -1,86 +1,15 @@
 //! The library through its C calls, one function for each thing that is counted.
 
+#[path = "../../../c/sitankulo.rs"]
+mod sitankulo;
+
 use std::hint::black_box;
 
 use crate::collect;
+use sitankulo::*;
 
 #[link(name = "sitankulo", kind = "static")]
-unsafe extern "C" {
-    fn sitankulo_begin(
-        record: *mut u8,
-        record_room: usize,
-        deadline: u8,
-        duration: u64,
-        address: u32,
-        script: *const u8,
-        script_length: usize,
-        read_room: usize,
-        busy: u8,
-        time: u64,
-    ) -> u32;
-    fn sitankulo_next(
-        record: *mut u8,
-        record_length: usize,
-        deadline: u8,
-        duration: u64,
-        address: u32,
-        script: *const u8,
-        script_length: usize,
-        time: u64,
-        words: *mut u8,
-        words_room: usize,
-        fifo: *mut u8,
-        fifo_room: usize,
-    ) -> u32;
-    fn sitankulo_complete(
-        record: *mut u8,
-        record_length: usize,
-        address: u32,
-        script: *const u8,
-        script_length: usize,
-        bits: u8,
-        commands: *const u8,
-        commands_length: usize,
-        time: u64,
-        received: *const u8,
-        received_length: usize,
-        buffer: *mut u8,
-        buffer_room: usize,
-    ) -> u32;
-    fn sitankulo_classify(
-        bits: u8,
-        commands: *const u8,
-        commands_length: usize,
-        time: u64,
-        polled: u8,
-        limited: u8,
-        due: u64,
-    ) -> u32;
-    fn sitankulo_clear_fresh(
-        clear: *mut u8,
-        clear_room: usize,
-        pins: u8,
-        time: u64,
-        changes: *mut u8,
-        changes_room: usize,
-    ) -> u32;
-    fn sitankulo_clear_step(
-        clear: *mut u8,
-        clear_length: usize,
-        pins: u8,
-        time: u64,
-        sda: u8,
-        changes: *mut u8,
-        changes_room: usize,
-    ) -> u32;
-    fn sitankulo_inspect(
-        words: *const u8,
-        words_length: usize,
-        fifo: *const u8,
-        fifo_length: usize,
-        phase: u32,
-    ) -> u32;
-}
+unsafe extern "C" {}
 
 const ADDRESS: u32 = crate::ADDRESS as u32;
 const NONE: u32 = 254;

@@ -1,92 +1,10 @@
-//! The C calls over slices.
+//! The C calls over slices. A flag is a byte, as it is in C.
 
-#[link(name = "sitankulo", kind = "static")]
-unsafe extern "C" {
-    fn sitankulo_begin(
-        record: *mut u8,
-        record_room: usize,
-        deadline: u8,
-        duration: u64,
-        address: u32,
-        script: *const u8,
-        script_length: usize,
-        read_room: usize,
-        busy: u8,
-        time: u64,
-    ) -> u32;
-    fn sitankulo_next(
-        record: *mut u8,
-        record_length: usize,
-        deadline: u8,
-        duration: u64,
-        address: u32,
-        script: *const u8,
-        script_length: usize,
-        time: u64,
-        words: *mut u8,
-        words_room: usize,
-        fifo: *mut u8,
-        fifo_room: usize,
-    ) -> u32;
-    fn sitankulo_complete(
-        record: *mut u8,
-        record_length: usize,
-        address: u32,
-        script: *const u8,
-        script_length: usize,
-        bits: u8,
-        commands: *const u8,
-        commands_length: usize,
-        time: u64,
-        received: *const u8,
-        received_length: usize,
-        buffer: *mut u8,
-        buffer_room: usize,
-    ) -> u32;
-    fn sitankulo_abandon(
-        record: *mut u8,
-        record_length: usize,
-        bits: u8,
-        commands: *const u8,
-        commands_length: usize,
-        time: u64,
-    ) -> u32;
-    fn sitankulo_classify(
-        bits: u8,
-        commands: *const u8,
-        commands_length: usize,
-        time: u64,
-        polled: u8,
-        limited: u8,
-        due: u64,
-    ) -> u32;
-    fn sitankulo_clear_step(
-        clear: *mut u8,
-        clear_length: usize,
-        pins: u8,
-        time: u64,
-        sda: u8,
-        changes: *mut u8,
-        changes_room: usize,
-    ) -> u32;
-    fn sitankulo_clear_run(
-        clear: *mut u8,
-        clear_length: usize,
-        pins: u8,
-        reset: u8,
-        start: u64,
-        limit: u64,
-        budget: usize,
-        clocks: *const u64,
-        clocks_length: usize,
-        levels: *const u8,
-        levels_length: usize,
-        changes: *mut u8,
-        changes_room: usize,
-        report: *mut u8,
-        report_room: usize,
-    ) -> u32;
-}
+#[path = "../../sitankulo.rs"]
+mod sitankulo;
+
+use oracle::ClearState;
+use sitankulo::*;
 
 pub const CLEAR: u32 = 253;
 pub const NONE: u32 = 254;
@@ -94,7 +12,7 @@ pub const PENDING: u32 = 255;
 
 /// What every call on one transaction takes.
 pub struct Transaction<'a> {
-    pub record: [u8; 25],
+    pub record: &'a mut [u8],
     pub deadline: u8,
     pub duration: u64,
     pub address: u32,
@@ -102,16 +20,17 @@ pub struct Transaction<'a> {
 }
 
 /// What the controller shows.
+#[derive(Clone, Debug)]
 pub struct Shown {
     pub bits: u8,
-    pub commands: [u8; 32],
+    pub commands: Vec<u8>,
     pub time: u64,
 }
 
 // SAFETY of every call here: each pointer comes with the length of what it points to.
 impl Transaction<'_> {
-    pub fn begin(&mut self, room: usize, busy: bool, time: u64) -> u32 {
-        let (record, script) = (&mut self.record, self.script);
+    pub fn begin(&mut self, room: usize, busy: u8, time: u64) -> u32 {
+        let (record, script) = (&mut *self.record, self.script);
         unsafe {
             sitankulo_begin(
                 record.as_mut_ptr(),
@@ -122,14 +41,14 @@ impl Transaction<'_> {
                 script.as_ptr(),
                 script.len(),
                 room,
-                busy.into(),
+                busy,
                 time,
             )
         }
     }
 
-    pub fn next(&mut self, time: u64, words: &mut [u8; 32], fifo: &mut [u8; 32]) -> u32 {
-        let (record, script) = (&mut self.record, self.script);
+    pub fn next(&mut self, time: u64, words: &mut [u8], fifo: &mut [u8]) -> u32 {
+        let (record, script) = (&mut *self.record, self.script);
         unsafe {
             sitankulo_next(
                 record.as_mut_ptr(),
@@ -149,7 +68,7 @@ impl Transaction<'_> {
     }
 
     pub fn complete(&mut self, shown: &Shown, received: &[u8], buffer: &mut [u8]) -> u32 {
-        let (record, script) = (&mut self.record, self.script);
+        let (record, script) = (&mut *self.record, self.script);
         unsafe {
             sitankulo_complete(
                 record.as_mut_ptr(),
@@ -170,7 +89,7 @@ impl Transaction<'_> {
     }
 
     pub fn abandon(&mut self, shown: &Shown) -> u32 {
-        let (record, commands) = (&mut self.record, &shown.commands);
+        let (record, commands) = (&mut *self.record, &shown.commands);
         unsafe {
             sitankulo_abandon(
                 record.as_mut_ptr(),
@@ -184,7 +103,7 @@ impl Transaction<'_> {
     }
 }
 
-pub fn classify(shown: &Shown, polled: bool, due: Option<u64>) -> u32 {
+pub fn classify(shown: &Shown, polled: u8, limited: u8, due: u64) -> u32 {
     let commands = &shown.commands;
     unsafe {
         sitankulo_classify(
@@ -192,27 +111,21 @@ pub fn classify(shown: &Shown, polled: bool, due: Option<u64>) -> u32 {
             commands.as_ptr(),
             commands.len(),
             shown.time,
-            polled.into(),
-            due.is_some().into(),
-            due.unwrap_or(0),
+            polled,
+            limited,
+            due,
         )
     }
 }
 
-pub fn clear_step(
-    clear: &mut [u8; 10],
-    pins: bool,
-    time: u64,
-    sda: bool,
-    changes: &mut [u8; 2],
-) -> u32 {
+pub fn clear_step(clear: &mut [u8], pins: u8, time: u64, sda: u8, changes: &mut [u8]) -> u32 {
     unsafe {
         sitankulo_clear_step(
             clear.as_mut_ptr(),
             clear.len(),
-            pins.into(),
+            pins,
             time,
-            sda.into(),
+            sda,
             changes.as_mut_ptr(),
             changes.len(),
         )
@@ -220,28 +133,29 @@ pub fn clear_step(
 }
 
 /// What a clear run is told besides the clear and the tape.
+#[derive(Clone, Copy, Debug)]
 pub struct Terms {
-    pub pins: bool,
-    pub reset: bool,
+    pub pins: u8,
+    pub reset: u8,
     pub start: u64,
     pub limit: u64,
     pub budget: usize,
 }
 
 pub fn clear_run(
-    clear: &mut [u8; 10],
+    clear: &mut [u8],
     terms: &Terms,
     clocks: &[u64],
     levels: &[u8],
     changes: &mut [u8],
-    report: &mut [u8; 17],
+    report: &mut [u8],
 ) -> u32 {
     unsafe {
         sitankulo_clear_run(
             clear.as_mut_ptr(),
             clear.len(),
-            terms.pins.into(),
-            terms.reset.into(),
+            terms.pins,
+            terms.reset,
             terms.start,
             terms.limit,
             terms.budget,
@@ -264,6 +178,18 @@ pub fn bytes_of(words: [u32; 8]) -> [u8; 32] {
         bytes[4 * place..4 * place + 4].copy_from_slice(&word.to_be_bytes());
     }
     bytes
+}
+
+/// A clear as its ten bytes.
+pub fn clear_bytes(state: ClearState, wait: u64) -> [u8; 10] {
+    let [kind, clocks] = match state {
+        ClearState::Idle => [0, 0],
+        ClearState::SendStop => [1, 0],
+        ClearState::SendClock(clocks, high) => [2 + u8::from(high), clocks],
+    };
+    let mut clear = [kind, clocks, 0, 0, 0, 0, 0, 0, 0, 0];
+    clear[2..].copy_from_slice(&wait.to_be_bytes());
+    clear
 }
 
 pub fn number_at(bytes: &[u8]) -> u64 {

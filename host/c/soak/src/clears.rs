@@ -10,17 +10,6 @@ const GIVEN_UP: u32 = 249;
 const TAPE_OVER: u32 = 251;
 const CLOCK_RANGE: u32 = 13;
 
-fn laid(state: ClearState, wait: u64) -> [u8; 10] {
-    let [kind, clocks] = match state {
-        ClearState::Idle => [0, 0],
-        ClearState::SendStop => [1, 0],
-        ClearState::SendClock(clocks, high) => [2 + u8::from(high), clocks],
-    };
-    let mut clear = [kind, clocks, 0, 0, 0, 0, 0, 0, 0, 0];
-    clear[2..].copy_from_slice(&wait.to_be_bytes());
-    clear
-}
-
 /// Any state, with clocks around the wait and at the end of the range.
 pub fn random_step(random: &mut Random) -> StepQuestion {
     let state = match random.below(4) {
@@ -45,9 +34,10 @@ pub fn random_step(random: &mut Random) -> StepQuestion {
 
 /// The answer to the question, by ours.
 pub fn ours(asked: &StepQuestion) -> u64 {
-    let mut clear = laid(asked.state, asked.wait);
+    let mut clear = calls::clear_bytes(asked.state, asked.wait);
     let mut changes = [0; 2];
-    let told = calls::clear_step(&mut clear, asked.pins, asked.now, asked.sda, &mut changes);
+    let [pins, sda] = [asked.pins, asked.sda].map(u8::from);
+    let told = calls::clear_step(&mut clear, pins, asked.now, sda, &mut changes);
     let made = &changes[..(told >> 8) as usize];
     let answer = match told & 0xff {
         READY => 0,
@@ -82,13 +72,13 @@ fn tape(asked: &RunQuestion) -> (Vec<u64>, Vec<u8>) {
 /// The answer to the question, by ours, which is handed the Rust's fresh wait and more polls than the tape has samples.
 pub fn ours_run(asked: &RunQuestion) -> u64 {
     let fresh = if asked.pins {
-        laid(ClearState::SendClock(9, false), asked.start + 5)
+        calls::clear_bytes(ClearState::SendClock(9, false), asked.start + 5)
     } else {
-        laid(ClearState::Idle, asked.start)
+        calls::clear_bytes(ClearState::Idle, asked.start)
     };
     let terms = Terms {
-        pins: asked.pins,
-        reset: asked.reset,
+        pins: asked.pins.into(),
+        reset: asked.reset.into(),
         start: asked.start,
         limit: asked.limit,
         budget: 0xffff,

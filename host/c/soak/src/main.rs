@@ -8,16 +8,6 @@ mod calls;
 mod clears;
 mod snapshots;
 mod transactions;
-// What the differential tests tell of a transaction; they also print it, which is not needed here.
-#[allow(dead_code)]
-#[path = "../../../differential/src/told.rs"]
-mod told;
-#[allow(dead_code)]
-mod question {
-    pub fn hex_line(_numbers: &[u64]) -> String {
-        unreachable!("nothing is printed in full")
-    }
-}
 
 use std::{
     fmt::Debug,
@@ -26,6 +16,9 @@ use std::{
 };
 
 use differential::{Leaf, Question, Random, RunQuestion, Transaction};
+
+#[link(name = "sitankulo", kind = "static")]
+unsafe extern "C" {}
 
 /// One question in so many is a transaction that fills its script.
 const FULL: u64 = 5000;

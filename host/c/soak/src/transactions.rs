@@ -1,12 +1,9 @@
 //! Whole transactions through the C calls, told as the differential tests tell the Rust original's.
 
-use differential::{Moment, Transaction};
+use differential::{Moment, Told, Transaction};
 use oracle::Timeout;
 
-use crate::{
-    calls::{self, CLEAR, NONE, PENDING, Shown},
-    told::Told,
-};
+use crate::calls::{self, CLEAR, NONE, PENDING, Shown};
 
 /// What the read buffer holds before.
 const OLD: u8 = 0xee;
@@ -37,7 +34,7 @@ fn shown(asked: &Transaction, list: &List, moment: Moment) -> Shown {
     let marked = |slot: usize| list.words[slot] | u32::from(done >> slot & 1) << 31;
     Shown {
         bits,
-        commands: calls::bytes_of(core::array::from_fn(marked)),
+        commands: calls::bytes_of(core::array::from_fn(marked)).to_vec(),
         time: clock(asked, moment),
     }
 }
@@ -55,7 +52,7 @@ fn received(asked: &Transaction, list: &List) -> Vec<u8> {
 }
 
 /// Tells a list and when it is due, which the record says.
-fn tell_list(told: &mut Told, list: &List, fifo: &[u8; 32], count: u32, record: &[u8; 25]) {
+fn tell_list(told: &mut Told, list: &List, fifo: &[u8; 32], count: u32, record: &[u8]) {
     told.tell(0);
     told.tell_all(list.words);
     told.tell(count.into());
@@ -104,7 +101,7 @@ pub fn ours(asked: &Transaction) -> u64 {
         Timeout::PerByte(duration) => (2, duration),
     };
     let mut calls = calls::Transaction {
-        record: [0; 25],
+        record: &mut [0; 25],
         deadline,
         duration,
         address: asked.address as u32,
@@ -112,7 +109,7 @@ pub fn ours(asked: &Transaction) -> u64 {
     };
     let mut told = Told::default();
     let mut buffer = vec![OLD; asked.room];
-    let begun = calls.begin(asked.room, asked.busy, asked.start);
+    let begun = calls.begin(asked.room, asked.busy.into(), asked.start);
     told.tell(begun.into());
     let mut last = [u64::from(begun), 0];
     let mut lists = 0;
@@ -137,7 +134,7 @@ pub fn ours(asked: &Transaction) -> u64 {
                 u32::from_be_bytes(words[4 * slot..4 * slot + 4].try_into().expect("four"))
             }),
         };
-        tell_list(&mut told, &list, &fifo, handed >> 8, &calls.record);
+        tell_list(&mut told, &list, &fifo, handed >> 8, calls.record);
         (last, goes_on) = wait(&mut told, asked, &list, &mut calls, &mut buffer);
     }
     told.tell_all(buffer);
