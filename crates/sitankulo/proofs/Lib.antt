@@ -10,7 +10,12 @@ pub mod Sizes
 pub mod Refusals
 pub mod LawsRecords
 pub mod LawsHanded
-pub mod LawsTransactions
+pub mod LawsForeign
+pub mod LawsAsked
+pub mod LawsBegin
+pub mod LawsNext
+pub mod LawsComplete
+pub mod LawsAbandon
 pub mod RecordReturns
 pub mod RecordOnly
 pub mod RecordStands

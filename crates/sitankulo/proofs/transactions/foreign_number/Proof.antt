@@ -2,7 +2,7 @@
 -- Assumes nothing.
 use mathlib.Core.Path.{sym, _∙_}
 use borrow.Author.Needs.{needs}
-use Rattle.sitankulo.proofs.LawsTransactions.{foreign-refused, foreign-accepted}
+use Rattle.sitankulo.proofs.LawsForeign.{foreign-refused, foreign-accepted}
 use Rattle.sitankulo.proofs.transactions.foreign_number.Statement.{statement}
 use Rattle.sitankulo.proofs.transactions.foreign_number.Tie as tie
 

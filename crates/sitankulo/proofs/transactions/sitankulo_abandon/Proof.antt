@@ -9,7 +9,8 @@ use borrow.Author.Tests.{not-true, not-false}
 use Rattle.sitankulo.specs.Records.{isRecord}
 use Rattle.sitankulo.specs.Transactions.{abandonedFor}
 use Rattle.sitankulo.proofs.LawsRecords.{record-long}
-use Rattle.sitankulo.proofs.LawsTransactions.{abandoned-for, abandon-misfit, abandon-foreign, abandon-stays, abandon-ahead}
+use Rattle.sitankulo.proofs.LawsAsked.{abandoned-for}
+use Rattle.sitankulo.proofs.LawsAbandon.{abandon-misfit, abandon-foreign, abandon-stays, abandon-ahead}
 use Rattle.sitankulo.proofs.transactions.sitankulo_abandon.Statement.{statement}
 use Rattle.sitankulo.proofs.transactions.sitankulo_abandon.Tie as tie
 

@@ -4,7 +4,7 @@ use mathlib.Core.Path.{_≡_, refl, sym, _∙_}
 use borrow.Author.Needs.{needs}
 use borrow.Author.Tests.{not-true, not-false}
 use Rattle.sitankulo.specs.Transactions.{begunFor}
-use Rattle.sitankulo.proofs.LawsTransactions.{begin-unknown, begin-roomless, begin-stays, begin-ahead}
+use Rattle.sitankulo.proofs.LawsBegin.{begin-unknown, begin-roomless, begin-stays, begin-ahead}
 use Rattle.sitankulo.proofs.transactions.sitankulo_begin.Statement.{statement}
 use Rattle.sitankulo.proofs.transactions.sitankulo_begin.Tie as tie
 

@@ -9,7 +9,8 @@ use borrow.Author.Tests.{not-true, not-false}
 use Rattle.sitankulo.specs.Records.{recordIn, isRecord}
 use Rattle.sitankulo.specs.Transactions.{completedFor, landedFor}
 use Rattle.sitankulo.proofs.LawsRecords.{record-long}
-use Rattle.sitankulo.proofs.LawsTransactions.{completed-for, landed-for, not-landed, complete-misfit, complete-foreign, complete-silent, complete-told}
+use Rattle.sitankulo.proofs.LawsAsked.{completed-for, landed-for}
+use Rattle.sitankulo.proofs.LawsComplete.{not-landed, complete-misfit, complete-foreign, complete-silent, complete-told}
 use Rattle.sitankulo.proofs.transactions.sitankulo_complete.Statement.{statement}
 use Rattle.sitankulo.proofs.transactions.sitankulo_complete.Tie as tie
 

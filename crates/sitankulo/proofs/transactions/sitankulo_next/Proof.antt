@@ -10,7 +10,8 @@ use Rattle.sitankulo.specs.Records.{isRecord}
 use Rattle.sitankulo.specs.Transactions.{handedFor}
 use Rattle.sitankulo.proofs.LawsHanded.{Few, few-handed}
 use Rattle.sitankulo.proofs.LawsRecords.{record-long}
-use Rattle.sitankulo.proofs.LawsTransactions.{handed-for, next-unknown, next-foreign, next-none, next-wordless, next-roomless, next-listed}
+use Rattle.sitankulo.proofs.LawsAsked.{handed-for}
+use Rattle.sitankulo.proofs.LawsNext.{next-unknown, next-foreign, next-none, next-wordless, next-roomless, next-listed}
 use Rattle.sitankulo.proofs.transactions.sitankulo_next.Statement.{statement}
 use Rattle.sitankulo.proofs.transactions.sitankulo_next.Tie as tie
 
