@@ -1,7 +1,7 @@
 #!/usr/bin/env python3
 """Counts instructions with callgrind: the library through its C calls, and the Rust original, on the same inputs.
 
-    bench.py PROGRAM      PROGRAM is host/bench/counted, built as a release
+    bench.py PROGRAM BY_HAND      host/bench/counted, built as a release, with the library and with by_hand.c in its place
 
 Each thing is done once, in a run of its own, and only what it does is collected. The controller that completes lists is left out on both
 sides. The Rust original's mock FIFO and pins do more than the one store or load of a part: what they do beyond it is counted by itself and
@@ -46,32 +46,37 @@ def mock_excess(counts, thing, amount):
     return counts(f'mock_{thing}', amount) - counts(f'plain_{thing}', amount)
 
 
-def print_row(name, ours, checks, original, mocks):
+def print_row(name, ours, checks, original, mocks, by_hand):
     """`mocks` is what the original's mocks do beyond one store or load for each byte or level."""
     fair = original - mocks if original else None
     ratio = f'{ours / fair:.2f}' if fair else ''
     without = f'{(ours - checks) / fair:.2f}' if fair and checks else ''
-    figures = [ours, checks or '', original or '', fair or '', ratio, without]
+    hand_ratio = f'{by_hand / fair:.2f}' if by_hand and fair else ''
+    figures = [ours, checks or '', original or '', fair or '', ratio, without, by_hand or '', hand_ratio]
     print(f'| {name} | ' + ' | '.join(f'{figure:,}' if isinstance(figure, int) else figure for figure in figures) + ' |')
 
 
-def print_table(counts):
-    print('| what | ours | of it checking the script again | the Rust | without its mocks | ratio | ratio without the checking |')
-    print('|---|--:|--:|--:|--:|--:|--:|')
+def print_table(counts, by_hand):
+    print('| what | ours | of it checking the script again | the Rust | without its mocks | ratio | ratio without the checking '
+          '| by hand in C | its ratio |')
+    print('|---|--:|--:|--:|--:|--:|--:|--:|--:|')
     print_row('all lists of a write of 4,093 bytes', counts('ours_write', 4093), counts('ours_write_checks', 4093),
-              counts('original_write', 4093), mock_excess(counts, 'fifo_writes', 4093))
+              counts('original_write', 4093), mock_excess(counts, 'fifo_writes', 4093), by_hand('ours_write', 4093))
     print_row('all lists of a read of 4,096 bytes', counts('ours_read', 4096), counts('ours_read_checks', 4096),
-              counts('original_read', 4096), mock_excess(counts, 'fifo_reads', 4096))
+              counts('original_read', 4096), mock_excess(counts, 'fifo_reads', 4096), by_hand('ours_read', 4096))
     # a register's number and the address twice go out, two bytes come in
     mocks = mock_excess(counts, 'fifo_writes', 3000) + mock_excess(counts, 'fifo_reads', 2000)
     print_row('a thousand register reads', counts('ours_register_reads', 1000), counts('ours_register_reads_checks', 1000),
-              counts('original_register_reads', 1000), mocks)
-    print_row('one snapshot classified', counts('ours_classify'), 0, counts('original_classify'), 0)
+              counts('original_register_reads', 1000), mocks, by_hand('ours_register_reads', 1000))
+    print_row('one snapshot classified', counts('ours_classify'), 0, counts('original_classify'), 0, by_hand('ours_classify'))
     # twenty polls with SDA low change a pin 21 times
     mocks = mock_excess(counts, 'pin_changes', 23) - mock_excess(counts, 'pin_changes', 2)
-    print_row('twenty clear polls', counts('ours_clear', 20) - counts('ours_clear', 0), 0,
-              counts('original_clear', 20) - counts('original_clear', 0), mocks)
-    print_row('one list inspected', counts('ours_inspect'), 0, None, 0)
+    print_row('twenty clear polls', clear_polls(counts, 'ours'), 0, clear_polls(counts, 'original'), mocks, clear_polls(by_hand, 'ours'))
+    print_row('one list inspected', counts('ours_inspect'), 0, None, 0, None)
+
+
+def clear_polls(counts, whose):
+    return counts(f'{whose}_clear', 20) - counts(f'{whose}_clear', 0)
 
 
 def print_growth(counts, name, things, amounts):
@@ -92,10 +97,10 @@ def print_all_growth(counts):
 
 
 def main():
-    if len(sys.argv) != 2:
+    if len(sys.argv) != 3:
         sys.exit(__doc__)
     counts = Counts(sys.argv[1])
-    print_table(counts)
+    print_table(counts, Counts(sys.argv[2]))
     print_all_growth(counts)
 
 
