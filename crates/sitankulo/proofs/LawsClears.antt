@@ -3,7 +3,7 @@
 use Prim.Native.Nat.{ℕ, _+_, _≤_, _<_}
 use native.Mathlib.Omega.{arith}
 use mathlib.Core.Path.{_≡_, refl, ap, _∙_}
-use mathlib.Core.Bool.{cond, _&&_}
+use mathlib.Core.Bool.{cond}
 use mathlib.Core.List.{List, [], _∷_}
 use lib.ListN.{length, set}
 use lib.Seq.{paste, length-paste}
@@ -54,9 +54,7 @@ few-made made p e = rw e (few-changes p)
 -- of the two bytes as many are laid as there are changes
 changes-put :
     (p : Pins) (old : List ℕ)
-    → cond (leb (changesIn p .count) (length (changesIn p .bytes)) && leb (changesIn p .count) (length old))
-    (paste old 0 (changesIn p .bytes) (changesIn p .count)) old
-    ≡ cond (leb (length (changeBytes p)) (length old)) (paste old 0 (changeBytes p) (length (changeBytes p))) old
+    → paste old 0 (changesIn p .bytes) (changesIn p .count) ≡ paste old 0 (changeBytes p) (length (changeBytes p))
 unfolding padded
 changes-put Still old = refl
 changes-put SclLow old = refl
@@ -84,9 +82,7 @@ module _ (t : Telling) (number : ℕ) (next : BusClear) (pins : Pins) (e : t ≡
         → (r : ℕ) (clear' changes' : List ℕ)
         → r ≡ packed number (made .count)
         → clear' ≡ paste clear 0 (clearBytes next) 10
-        → changes'
-        ≡ cond (leb (made .count) (length (made .bytes)) && leb (made .count) (length changes))
-        (paste changes 0 (made .bytes) (made .count)) changes
+        → changes' ≡ paste changes 0 (made .bytes) (made .count)
         → ClearLeft (roomed t clear changes) r clear clear' changes changes'
     laid h r clear' changes' p q s =
         let f = le-leb 10 (length clear) room in

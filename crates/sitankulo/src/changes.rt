@@ -1,6 +1,9 @@
 // The pin changes of a poll as bytes, in order.
 ghost use mathlib.Core.Path.{_≡_};
 ghost use mathlib.Core.List.{[], _∷_};
+ghost use Prim.Native.Nat.{_≤_};
+ghost use lib.ListN.{length};
+ghost use lib.Seq.{paste};
 ghost use Rattle.sitankulo.specs.Clears.{changesIn};
 use bus_clear::Pins;
 
@@ -53,4 +56,20 @@ pub(crate) fn changes_of(pins: Pins) -> Changes
         Pins::SclLowSdaHigh => two(SCL_LOW, SDA_HIGH),
         Pins::SclHighSdaHigh => two(SCL_HIGH, SDA_HIGH),
     }
+}
+
+// Puts the changes in front of the lent memory.
+pub(crate) fn put(made: Changes, out: &mut [u8])
+    requires { ⌜ (made .count ≤ 2) × (made .count ≤ length (now out)) ⌝ }
+    ensures { λ r. ⌜ now (out .exit) ≡ paste (now (out .entry)) 0 (made .bytes) (made .count) ⌝ }
+{
+    let bytes = made.bytes;
+    if made.count == 0 {
+        return;
+    }
+    out[0] = bytes[0];
+    if made.count == 1 {
+        return;
+    }
+    out[1] = bytes[1];
 }

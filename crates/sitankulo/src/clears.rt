@@ -27,7 +27,6 @@ fn lay(telling: Telling, clear: &mut [u8], changes: &mut [u8]) -> u32
         Telling::Tells(number, next, pins) => {
             let made = changes::changes_of(pins);
             let count = made.count;
-            let bytes = made.bytes;
             if clear.len() < clear_layout::SIZE {
                 return answer::ROOM;
             }
@@ -35,7 +34,7 @@ fn lay(telling: Telling, clear: &mut [u8], changes: &mut [u8]) -> u32
                 return answer::ROOM;
             }
             clear_layout::put_clear(next, clear);
-            wire::put_bytes(&bytes, count, changes);
+            changes::put(made, changes);
             answer::pack(number, count as u8)
         }
     }
