@@ -1,7 +1,9 @@
 -- `sitankulo::records::encode` meets its contract.
 -- Assumes nothing.
+use native.Mathlib.Omega.{arith}
+use lib.ListN.{length-set}
+use Rattle.sitankulo.proofs.LawsRecords.{placed-long, dated-long, encoded, encoded-length}
 use borrow.Author.Needs.{needs}
-use Rattle.sitankulo.proofs.LawsRecords.{encoded, encoded-length}
 use Rattle.sitankulo.proofs.records.encode.Statement.{statement}
 use Rattle.sitankulo.proofs.records.encode.Tie as tie
 
@@ -11,36 +13,49 @@ flags-of-requires c κs = search needs
 slice-write-state : tie.Need-slice-write-state
 slice-write-state c = search needs
 
-put-time-requires : tie.Need-put-time-requires
-put-time-requires c κs = search needs
+put-requires : tie.Need-put-requires
+put-requires c κs = rw length-set (omega (arith, c .before .before .before .pre))
 
 time-in-requires : tie.Need-time-in-requires
 time-in-requires c κs = search needs
 
-put-time-requires-2 : tie.Need-put-time-requires-2
-put-time-requires-2 c κs = search needs
+put-requires-2 : tie.Need-put-requires-2
+put-requires-2 c κs =
+    let first = c .before .before .before .before in
+    let start = first .before .before .before .before in
+    placed-long (start .args .p) (start .args .state .now) (start .pre) (first .before .before .flags-of .result) (first .before .before .flags-of .ensures) _
+    (first .put .ensures)
 
 time-in-requires-2 : tie.Need-time-in-requires-2
 time-in-requires-2 c κs = search needs
 
-put-time-requires-3 : tie.Need-put-time-requires-3
-put-time-requires-3 c κs = search needs
+put-requires-3 : tie.Need-put-requires-3
+put-requires-3 c κs =
+    let second = c .before .before .before .before in
+    let first = second .before .before .before .before .before in
+    let start = first .before .before .before .before in
+    dated-long (start .args .p) (start .args .state .now) (start .pre) (first .before .before .flags-of .result) (first .before .before .flags-of .ensures) _
+    (first .put .ensures) (second .before .before .time-in .result) (second .before .before .time-in .ensures) _ (second .put2 .ensures)
 
 same-length : tie.Need-same-length
 same-length c =
     let third = c .before .before in
     let second = third .before .before .before .before .before in
     let first = second .before .before .before .before .before in
-    encoded-length (first .before .before .before .before .args .p) (first .before .before .before .before .args .state .now) (first .before .before .before .before .pre) (first .before .before .flags-of .result) (first .before .before .flags-of .ensures) _ (first .put-time .ensures)
-    (second .before .before .time-in .result) (second .before .before .time-in .ensures) _ (second .put-time2 .ensures) (third .before .before .time-in2 .result) (third .before .before .time-in2 .ensures) _ (third .put-time3 .ensures)
+    let start = first .before .before .before .before in
+    encoded-length (start .args .p) (start .args .state .now) (start .pre) (first .before .before .flags-of .result) (first .before .before .flags-of .ensures) _
+    (first .put .ensures) (second .before .before .time-in .result) (second .before .before .time-in .ensures) _ (second .put2 .ensures)
+    (third .before .before .time-in2 .result) (third .before .before .time-in2 .ensures) _ (third .put3 .ensures)
 
 returns : tie.Need-returns
 returns c =
     let third = c .before .before in
     let second = third .before .before .before .before .before in
     let first = second .before .before .before .before .before in
-    encoded (first .before .before .before .before .args .p) (first .before .before .before .before .args .state .now) (first .before .before .before .before .pre) (first .before .before .flags-of .result) (first .before .before .flags-of .ensures) _ (first .put-time .ensures)
-    (second .before .before .time-in .result) (second .before .before .time-in .ensures) _ (second .put-time2 .ensures) (third .before .before .time-in2 .result) (third .before .before .time-in2 .ensures) _ (third .put-time3 .ensures)
+    let start = first .before .before .before .before in
+    encoded (start .args .p) (start .args .state .now) (start .pre) (first .before .before .flags-of .result) (first .before .before .flags-of .ensures) _
+    (first .put .ensures) (second .before .before .time-in .result) (second .before .before .time-in .ensures) _ (second .put2 .ensures)
+    (third .before .before .time-in2 .result) (third .before .before .time-in2 .ensures) _ (third .put3 .ensures)
 
 pub encode-spec : {M : Type 1} → statement M
 encode-spec =
@@ -48,10 +63,10 @@ encode-spec =
     (tie.spec
     flags-of-requires
     slice-write-state
-    put-time-requires
+    put-requires
     time-in-requires
-    put-time-requires-2
+    put-requires-2
     time-in-requires-2
-    put-time-requires-3
+    put-requires-3
     same-length
     returns)
