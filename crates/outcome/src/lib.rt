@@ -1,10 +1,11 @@
 // What a snapshot of the controller means for the list that it executes.
 ghost use mathlib.Core.Path.{_≡_};
 ghost use mathlib.Core.Bool.{cond};
-ghost use Rattle.outcome.specs.declared.Outcome.the-variants.{Done};
+ghost use Rattle.outcome.specs.declared.Error.the-variants.{Timeout};
+ghost use Rattle.outcome.specs.declared.Outcome.the-variants.{Pending, Done, Failed};
 ghost use Rattle.outcome.specs.Packed.{unpacked};
 ghost use Rattle.outcome.specs.Answers.{reasonOf, errorAnswer, answerOf};
-ghost use Rattle.outcome.specs.Outcomes.{unansweredOf, timedOutOf, errorsOf, pastOf, finishedOf, forgiveTimeout, pollOf, slotsOf, commandsOf, classifyOf, receivedOf};
+ghost use Rattle.outcome.specs.Outcomes.{unansweredOf, timedOutOf, errorsOf, pastOf, finishedOf, forgiveTimeout, andThen, pollOf, slotsOf, commandsOf, classifyOf, receivedOf};
 
 // Why a byte was not acknowledged.
 pub enum Reason {
@@ -153,24 +154,30 @@ fn forgive_timeout(error: Outcome) -> Outcome
     }
 }
 
-// The wait for a list.
-pub fn poll_completion(s: Snapshot, due: Due) -> Outcome
-    ensures { λ r. ⌜ r ≡ pollOf s due ⌝ }
+// The wait for a list, by its error, whether the controller is done with it, and whether its time is past.
+fn poll_by(error: Outcome, done: bool, past: bool) -> Outcome
+    ensures { λ r. ⌜ r ≡ cond done (forgiveTimeout error) (andThen error (cond past (Failed Timeout) Pending)) ⌝ }
 {
-    let error = check_errors(s);
-    if is_done(s) {
+    if done {
         return forgive_timeout(error);
     }
     match error {
         Outcome::Pending => Outcome::Pending,
         Outcome::Failed(cause) => Outcome::Failed(cause),
         Outcome::Done => {
-            if is_past(due, s.now) {
+            if past {
                 return Outcome::Failed(Error::Timeout);
             }
             Outcome::Pending
         }
     }
+}
+
+// The wait for a list.
+pub fn poll_completion(s: Snapshot, due: Due) -> Outcome
+    ensures { λ r. ⌜ r ≡ pollOf s due ⌝ }
+{
+    poll_by(check_errors(s), is_done(s), is_past(due, s.now))
 }
 
 // The command slots in order, up to END or STOP; zeros are skipped. END itself need not be done: the controller does not mark it.
@@ -200,36 +207,41 @@ fn walk_slots(commands: [u32; 8], past: bool) -> Outcome
     Outcome::Done
 }
 
+fn check_by(error: Outcome, commands: [u32; 8], past: bool) -> Outcome
+    ensures { λ r. ⌜ r ≡ andThen error (slotsOf past commands) ⌝ }
+{
+    match error {
+        Outcome::Pending => Outcome::Pending,
+        Outcome::Failed(cause) => Outcome::Failed(cause),
+        Outcome::Done => walk_slots(commands, past),
+    }
+}
+
 // The command check: errors again, and here a timeout counts; then every command up to the list's end has to be done.
 pub fn all_commands_done(s: Snapshot, due: Due) -> Outcome
     ensures { λ r. ⌜ r ≡ commandsOf s due ⌝ }
 {
-    let error = check_errors(s);
-    match error {
-        Outcome::Pending => Outcome::Pending,
-        Outcome::Failed(cause) => Outcome::Failed(cause),
-        Outcome::Done => {
-            let commands = s.commands;
-            walk_slots(commands, is_past(due, s.now))
-        }
-    }
+    let commands = s.commands;
+    check_by(check_errors(s), commands, is_past(due, s.now))
 }
 
 // The wait for a list, which a list whose poll has succeeded has behind it.
-fn poll_unless(polled: bool, s: Snapshot, due: Due) -> Outcome
-    ensures { λ r. ⌜ r ≡ cond polled Done (pollOf s due) ⌝ }
+fn poll_unless(polled: bool, error: Outcome, done: bool, past: bool) -> Outcome
+    ensures { λ r. ⌜ r ≡ cond polled Done (cond done (forgiveTimeout error) (andThen error (cond past (Failed Timeout) Pending))) ⌝ }
 {
     if polled {
         return Outcome::Done;
     }
-    poll_completion(s, due)
+    poll_by(error, done, past)
 }
 
 // What a snapshot means for a list whose poll has, or has not yet, succeeded.
 pub fn classify(s: Snapshot, polled: bool, due: Due) -> Classified
     ensures { λ r. ⌜ r ≡ classifyOf s polled due ⌝ }
 {
-    let poll = poll_unless(polled, s, due);
+    let error = check_errors(s);
+    let past = is_past(due, s.now);
+    let poll = poll_unless(polled, error, is_done(s), past);
     match poll {
         Outcome::Pending => Classified {
             outcome: Outcome::Pending,
@@ -239,10 +251,13 @@ pub fn classify(s: Snapshot, polled: bool, due: Due) -> Classified
             outcome: Outcome::Failed(cause),
             polled: false,
         },
-        Outcome::Done => Classified {
-            outcome: all_commands_done(s, due),
-            polled: true,
-        },
+        Outcome::Done => {
+            let commands = s.commands;
+            Classified {
+                outcome: check_by(error, commands, past),
+                polled: true,
+            }
+        }
     }
 }
 

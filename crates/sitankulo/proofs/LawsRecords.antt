@@ -11,8 +11,8 @@ use lib.Seq.{paste, take-paste, drop-paste, length-paste, length-take-le, drop-d
 use lib.Dec.{leb}
 use borrow.Author.Tests.{le-leb, leb-true}
 use Rattle.transaction.specs.declared.Progress.{Progress}
-use Rattle.wire.specs.Numbers.{timeBytes, timeAt}
-use Rattle.sitankulo.specs.Records.{timeIn, flagsOf, recordBytes, recordIn, standing, agreeing, isRecord}
+use Rattle.wire.specs.Numbers.{timeBytes}
+use Rattle.sitankulo.specs.Records.{timeIn, flagsOf, recordBytes, isRecord}
 
 -- what is stored behind what was stored before
 pub paste-behind :
