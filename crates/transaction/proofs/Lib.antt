@@ -1,3 +1,4 @@
+pub mod LawsCut
 pub mod LawsOperation
 pub mod LawsKept
 pub mod LawsPlace

@@ -3,10 +3,11 @@
 ghost use mathlib.Core.Path.{_≡_};
 ghost use mathlib.Core.Bool.{true, false, cond, not, _&&_};
 ghost use mathlib.Core.List.{List};
-ghost use Prim.Native.Nat.{ℕ, _+_, _*_, _≤_, _<_};
+ghost use Prim.Native.Nat.{ℕ, _+_, _-_, _*_, _≤_, _<_};
 ghost use lib.ListN.{length, drop};
 ghost use Rattle.bus.specs.Operations.{Operation};
-ghost use Rattle.chunks.specs.Pieces.{countOf};
+ghost use lib.Dec.{eqb};
+ghost use Rattle.chunks.specs.Pieces.{pieceOf, countOf, startOf};
 ghost use Rattle.turns.specs.Steps.{starts};
 ghost use Rattle.turns.specs.Turns.{withList, turnAt};
 ghost use Rattle.transaction.specs.Walk.{directionOf, beforeOf, Readable, keptAt, operationAt, viewed, Behind, Sound, flagsOf, pieceFlags, Sized, stepsFor, turnOf, Inside, isTurn, sizeOf, misplaced, Walkable, turnIn};
@@ -25,6 +26,13 @@ struct Flags {
     start: bool,
     stop: bool,
     continues: bool,
+}
+
+// Where a piece of an operation starts, its size and its flags.
+struct Cutting {
+    start: usize,
+    size: usize,
+    own: Flags,
 }
 
 // The piece that the next list carries, a write's from its place in the script on, and how far the read buffer is filled. Or no list
@@ -188,6 +196,28 @@ fn flags_at(flags: Flags, first: bool, last: bool) -> Flags
     }
 }
 
+// The piece at a place of an operation of so many bytes. Most operations are one piece.
+fn cut(length: usize, flags: Flags, at: usize) -> Cutting
+    requires { ⌜ at < countOf 31 length ⌝ }
+    ensures { λ r. ⌜ (r .start ≡ startOf 31 length at) × (r .size ≡ pieceOf 31 (length - r .start))
+        × (r .own ≡ pieceFlags flags (eqb at 0) (eqb (at + 1) (countOf 31 length))) ⌝ }
+{
+    if length <= CHUNK {
+        return Cutting {
+            start: 0,
+            size: length,
+            own: flags,
+        };
+    }
+    let start = chunks::piece_start(CHUNK, length, at);
+    let all = chunks::count_pieces(CHUNK, length);
+    Cutting {
+        start: start,
+        size: chunks::calculate_chunk_size(CHUNK, length - start),
+        own: flags_at(flags, at == 0, at + 1 == all),
+    }
+}
+
 // The piece at a place among an operation's lists.
 fn piece(ahead: Kept, flags: Flags, at: usize, landing: usize) -> Found
     requires { ⌜ Sound ahead × (at < countOf 31 (ahead .length)) × (landing ≤ 1073741824) ⌝ }
@@ -198,13 +228,12 @@ fn piece(ahead: Kept, flags: Flags, at: usize, landing: usize) -> Found
         × Inside (ahead .next) r × (isTurn r ≡ true) ⌝ }
 {
     let length = ahead.length;
-    let start = chunks::piece_start(CHUNK, length, at);
-    let size = chunks::calculate_chunk_size(CHUNK, length - start);
-    let all = chunks::count_pieces(CHUNK, length);
-    let own = flags_at(flags, at == 0, at + 1 == all);
+    let piece = cut(length, flags, at);
+    let start = piece.start;
+    let own = piece.own;
     if ahead.reads {
         return Found::Read {
-            length: size,
+            length: piece.size,
             start: own.start,
             stop: own.stop,
             continues: own.continues,
@@ -213,7 +242,7 @@ fn piece(ahead: Kept, flags: Flags, at: usize, landing: usize) -> Found
     }
     Found::Write {
         from: ahead.next - length + start,
-        length: size,
+        length: piece.size,
         start: own.start,
         stop: own.stop,
         landing: landing,
