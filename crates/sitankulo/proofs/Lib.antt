@@ -8,6 +8,7 @@ pub mod LawsClearRuns
 pub mod ReadBack
 pub mod Sizes
 pub mod Refusals
+pub mod TransactionRefusals
 pub mod LawsRecords
 pub mod LawsHanded
 pub mod LawsForeign

@@ -40,7 +40,7 @@ use Rattle.sitankulo.specs.Names.{toldAnswer, toldText}
 use Rattle.sitankulo.proofs.LawsTests.{by-test}
 
 -- a refusal in bits 0 to 7 of an answer
-abbrev Refusing : ℕ → Type 0
+abbrev pub Refusing : ℕ → Type 0
 Refusing r = (1 ≤ r % 256) × (r % 256 ≤ 14)
 
 -- one command list
