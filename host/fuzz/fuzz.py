@@ -43,11 +43,12 @@ def has_libfuzzer():
 def install_libfuzzer():
     if os.geteuid() != 0 or not shutil.which('apt-get'):
         return
-    try:
-        subprocess.run(['apt-get', 'install', '-y', *PACKAGES], stdin=subprocess.DEVNULL, capture_output=True,
-                       timeout=SECONDS_TO_INSTALL, env={**os.environ, 'DEBIAN_FRONTEND': 'noninteractive'})
-    except (OSError, subprocess.TimeoutExpired):
-        pass
+    for words in (['update'], ['install', '-y', *PACKAGES]):
+        try:
+            subprocess.run(['apt-get', *words], stdin=subprocess.DEVNULL, capture_output=True, timeout=SECONDS_TO_INSTALL,
+                           env={**os.environ, 'DEBIAN_FRONTEND': 'noninteractive'})
+        except (OSError, subprocess.TimeoutExpired):
+            pass
 
 
 def build():

@@ -46,6 +46,28 @@ fn controller_completes(words: &mut [u8; 32]) {
     }
 }
 
+/// The next list, at time 0 and without a deadline.
+#[inline(always)]
+fn next(record: &mut [u8; 25], script: &[u8], words: &mut [u8; 32], fifo: &mut [u8; 32]) -> u32 {
+    // SAFETY: every pointer comes with its length.
+    unsafe {
+        sitankulo_next(
+            record.as_mut_ptr(),
+            25,
+            0,
+            0,
+            ADDRESS,
+            script.as_ptr(),
+            script.len(),
+            0,
+            words.as_mut_ptr(),
+            32,
+            fifo.as_mut_ptr(),
+            32,
+        )
+    }
+}
+
 /// A transaction from begin to its end; how many lists it took.
 #[inline(never)]
 pub fn ours_transaction(script: &[u8], buffer: &mut [u8]) -> usize {
@@ -71,20 +93,7 @@ pub fn ours_transaction(script: &[u8], buffer: &mut [u8]) -> usize {
         );
         assert_eq!(begun, 0);
         for lists in 0.. {
-            let handed = sitankulo_next(
-                record.as_mut_ptr(),
-                25,
-                0,
-                0,
-                ADDRESS,
-                script.as_ptr(),
-                script.len(),
-                0,
-                words.as_mut_ptr(),
-                32,
-                fifo.as_mut_ptr(),
-                32,
-            );
+            let handed = next(&mut record, script, &mut words, &mut fifo);
             if handed == NONE {
                 return lists;
             }
@@ -129,23 +138,7 @@ pub fn ours_checks(script: &[u8], calls: usize) {
     let (mut words, mut fifo) = ([0; 32], [0; 32]);
     let mut foreign = [0xff; 25];
     for _ in 0..calls {
-        // SAFETY: every pointer comes with its length.
-        let refused = unsafe {
-            sitankulo_next(
-                foreign.as_mut_ptr(),
-                25,
-                0,
-                0,
-                ADDRESS,
-                script.as_ptr(),
-                script.len(),
-                0,
-                words.as_mut_ptr(),
-                32,
-                fifo.as_mut_ptr(),
-                32,
-            )
-        };
+        let refused = next(&mut foreign, script, &mut words, &mut fifo);
         assert_eq!(refused, SHAPE);
     }
 }
