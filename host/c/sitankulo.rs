@@ -2,6 +2,33 @@
 
 #![allow(dead_code)]
 
+// refusals
+pub const ADDRESS_INVALID: u32 = 1;
+pub const ZERO_LENGTH_INVALID: u32 = 2;
+pub const FIFO_EXCEEDED: u32 = 3;
+pub const VERSION: u32 = 4;
+pub const SHAPE: u32 = 5;
+pub const SIZE: u32 = 6;
+pub const ROOM: u32 = 7;
+pub const EXECUTION_INCOMPLETE: u32 = 8;
+pub const ACKNOWLEDGE_CHECK_FAILED: u32 = 9;
+pub const ARBITRATION_LOST: u32 = 10;
+pub const TIMEOUT: u32 = 11;
+pub const OUT_OF_TURN: u32 = 12;
+pub const CLOCK_RANGE: u32 = 13;
+pub const LIST_REFUSED: u32 = 14;
+
+// answers that are no refusals
+pub const STUCK: u32 = 247;
+pub const UNANSWERED: u32 = 248;
+pub const GIVEN_UP: u32 = 249;
+pub const SPENT: u32 = 250;
+pub const TAPE_OVER: u32 = 251;
+pub const CLOCK_ENDED: u32 = 252;
+pub const CLEAR: u32 = 253;
+pub const NONE: u32 = 254;
+pub const PENDING: u32 = 255;
+
 unsafe extern "C" {
     pub fn sitankulo_build_write(
         address: u32,

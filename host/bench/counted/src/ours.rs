@@ -12,9 +12,6 @@ use sitankulo::*;
 unsafe extern "C" {}
 
 const ADDRESS: u32 = crate::ADDRESS as u32;
-const NONE: u32 = 254;
-const SHAPE: u32 = 5;
-const PENDING: u32 = 255;
 
 /// Transfer complete and acknowledged.
 const COMPLETED: u8 = 0x60;

@@ -1,14 +1,10 @@
 //! The C calls over slices. A flag is a byte, as it is in C.
 
 #[path = "../../sitankulo.rs"]
-mod sitankulo;
+pub mod sitankulo;
 
 use oracle::ClearState;
 use sitankulo::*;
-
-pub const CLEAR: u32 = 253;
-pub const NONE: u32 = 254;
-pub const PENDING: u32 = 255;
 
 /// What every call on one transaction takes.
 pub struct Transaction<'a> {

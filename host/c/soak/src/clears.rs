@@ -3,12 +3,12 @@
 use differential::{Random, RunQuestion, StepQuestion};
 use oracle::ClearState;
 
-use crate::calls::{self, Terms};
+use crate::calls::{
+    self, Terms,
+    sitankulo::{CLOCK_RANGE, GIVEN_UP, TAPE_OVER},
+};
 
 const READY: u32 = 0;
-const GIVEN_UP: u32 = 249;
-const TAPE_OVER: u32 = 251;
-const CLOCK_RANGE: u32 = 13;
 
 /// Any state, with clocks around the wait and at the end of the range.
 pub fn random_step(random: &mut Random) -> StepQuestion {

@@ -3,7 +3,10 @@
 use differential::{Moment, Told, Transaction};
 use oracle::Timeout;
 
-use crate::calls::{self, CLEAR, NONE, PENDING, Shown};
+use crate::calls::{
+    self, Shown,
+    sitankulo::{CLEAR, NONE, PENDING},
+};
 
 /// What the read buffer holds before.
 const OLD: u8 = 0xee;

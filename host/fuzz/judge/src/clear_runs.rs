@@ -3,16 +3,14 @@
 use oracle::{Clear, Effect};
 
 use crate::{
-    calls::{self, Terms},
-    clears::{ROOM, SHAPE, change, laid_over, left_in, poll},
+    calls::{
+        self, Terms,
+        sitankulo::{CLOCK_ENDED, GIVEN_UP, ROOM, SHAPE, SPENT, TAPE_OVER},
+    },
+    clears::{change, laid_over, left_in, poll},
     input::Input,
     lent::{Lent, must_agree},
 };
-
-const GIVEN_UP: u32 = 249;
-const SPENT: u32 = 250;
-const TAPE_OVER: u32 = 251;
-const CLOCK_ENDED: u32 = 252;
 
 const REPORT: usize = 17;
 

@@ -8,16 +8,15 @@ use std::{
 use oracle::{Clear, ClearState, Effect};
 
 use crate::{
-    calls::{self, PENDING, clear_bytes, number_at},
+    calls::{
+        self, clear_bytes, number_at,
+        sitankulo::{CLOCK_RANGE, PENDING, ROOM, SHAPE},
+    },
     clear_runs,
     input::Input,
     lent::{Lent, must_agree},
     other_calls::clear_fresh,
 };
-
-pub const SHAPE: u32 = 5;
-pub const ROOM: u32 = 7;
-const CLOCK_RANGE: u32 = 13;
 
 const SIZE: usize = 10;
 

@@ -1,15 +1,15 @@
 //! The inspector and the controller model on any words, FIFO bytes and phase, against a model of document 01's rules.
 
 use crate::{
-    calls::bytes_of,
+    calls::{
+        bytes_of,
+        sitankulo::{LIST_REFUSED, ROOM, STUCK},
+    },
     input::Input,
     lent::{Lent, must_agree},
-    model::{self, STUCK},
+    model,
     other_calls::{Loaded, Sensor, inspect, model_run},
 };
-
-const LIST_REFUSED: u32 = 14;
-const ROOM: u32 = 7;
 
 const WORDS: usize = 32;
 

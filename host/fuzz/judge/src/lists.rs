@@ -3,7 +3,10 @@
 use oracle::{Deadline, Error, List};
 
 use crate::{
-    calls::bytes_of,
+    calls::{
+        bytes_of,
+        sitankulo::{ADDRESS_INVALID, FIFO_EXCEEDED, ROOM, ZERO_LENGTH_INVALID},
+    },
     input::Input,
     lent::{Lent, must_agree},
     other_calls,
@@ -12,11 +15,6 @@ use crate::{
 const START: u8 = 1;
 const STOP: u8 = 2;
 const CONTINUES: u8 = 4;
-
-const ADDRESS_INVALID: u32 = 1;
-const ZERO_LENGTH: u32 = 2;
-const FIFO_EXCEEDED: u32 = 3;
-const ROOM: u32 = 7;
 
 /// The Rust's driver traps on a read of more in one operation, and its builder is asked alone.
 const FIFO: usize = 32;
@@ -77,7 +75,7 @@ fn built(asked: &Asked) -> Result<List, u32> {
         return Err(ADDRESS_INVALID);
     }
     let list = by_the_rust(asked).map_err(|error| match error {
-        Error::ZeroLengthInvalid => ZERO_LENGTH,
+        Error::ZeroLengthInvalid => ZERO_LENGTH_INVALID,
         Error::FifoExceeded => FIFO_EXCEEDED,
         other => panic!("no refusal of the builder: {other:?}"),
     })?;

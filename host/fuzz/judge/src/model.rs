@@ -1,9 +1,9 @@
 //! A list on the controller, from the words of document 01, "Inspector and controller model". The Rust original has none.
 
-use crate::other_calls::{Loaded, Sensor};
-
-pub const STUCK: u32 = 247;
-pub const UNANSWERED: u32 = 248;
+use crate::{
+    calls::sitankulo::{STUCK, UNANSWERED},
+    other_calls::{Loaded, Sensor},
+};
 
 const IDLE: u32 = 0;
 const STARTED: u32 = 1;

@@ -1,9 +1,6 @@
 //! The C calls that the soak test does not make: single lists, a fresh clear, the inspector and the model.
 
-#[path = "../../../c/sitankulo.rs"]
-mod sitankulo;
-
-use sitankulo::*;
+use crate::calls::sitankulo::*;
 
 // SAFETY of every call here: each pointer comes with the length of what it points to.
 pub fn build_write(

@@ -7,15 +7,12 @@ use differential::{numbered, operations, read_total};
 use oracle::{Handed, Op, Setup, Snapshot, Timeout, Turn};
 
 use crate::{
-    calls::{CLEAR, NONE, PENDING, Shown},
+    calls::{
+        Shown,
+        sitankulo::{CLEAR, CLOCK_RANGE, LIST_REFUSED, NONE, OUT_OF_TURN, PENDING, ROOM, SHAPE},
+    },
     record::{FAILED, HAS_DUE, HAS_FIXED, OUTSTANDING, POLLED, Record, SIZE},
 };
-
-const SHAPE: u32 = 5;
-const ROOM: u32 = 7;
-const OUT_OF_TURN: u32 = 12;
-const CLOCK_RANGE: u32 = 13;
-const LIST_REFUSED: u32 = 14;
 
 const FIXED: u8 = 1;
 const PER_BYTE: u8 = 2;

@@ -3,12 +3,10 @@
 use differential::{Leaf, Observed, Question};
 
 use crate::{
-    calls::{self, Shown, bytes_of},
+    calls::{self, Shown, bytes_of, sitankulo::LIST_REFUSED},
     input::Input,
     lent::must_agree,
 };
-
-const LIST_REFUSED: u32 = 14;
 
 pub fn run(input: &mut Input<'_>) {
     let [bits, polled, limited, nearby] = input.array();
