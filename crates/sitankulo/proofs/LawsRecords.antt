@@ -4,7 +4,7 @@ use Prim.Native.Nat.{ℕ, _+_, _≤_}
 use native.Mathlib.Nat.{add-assoc}
 use native.Mathlib.Omega.{arith}
 use mathlib.Core.Path.{_≡_, refl, sym, ap, _∙_}
-use mathlib.Core.Bool.{Bool, true, false, cond, _&&_}
+use mathlib.Core.Bool.{true, cond}
 use mathlib.Core.List.{List, [], _∷_, _++_, append-assoc}
 use lib.ListN.{length, take, drop, set, length-set, length-append, length-drop, drop-of-length-le}
 use lib.Seq.{paste, take-paste, drop-paste, length-paste, length-take-le, drop-drop, take-all}
@@ -12,6 +12,7 @@ use lib.Dec.{leb}
 use borrow.Author.Tests.{le-leb, leb-true}
 use Rattle.transaction.specs.declared.Progress.{Progress}
 use Rattle.wire.specs.Numbers.{timeBytes}
+use Rattle.sitankulo.proofs.LawsTests.{and-left}
 use Rattle.sitankulo.specs.Records.{timeIn, flagsOf, recordBytes, isRecord}
 
 -- what is stored behind what was stored before
@@ -102,7 +103,4 @@ module _
 -- a record is long enough to be written again
 pub record-long : (state : List ℕ) → isRecord state ≡ true → 25 ≤ length state
 unfolding isRecord
-record-long state e = leb-true 25 (length state) (both (leb 25 (length state)) _ e) where
-  both : (a b : Bool) → (a && b) ≡ true → a ≡ true
-  both true b h = refl
-  both false b h = h
+record-long state e = leb-true 25 (length state) (and-left (leb 25 (length state)) _ e)

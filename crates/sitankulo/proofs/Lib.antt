@@ -20,3 +20,4 @@ pub mod LawsAbandon
 pub mod RecordReturns
 pub mod RecordOnly
 pub mod RecordStands
+pub mod RecordFits

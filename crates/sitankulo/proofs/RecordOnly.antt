@@ -4,7 +4,7 @@ use Prim.Native.Nat.{ℕ, zero, suc, _+_, _*_, _/_, _%_, _≤_, _<_}
 use native.Mathlib.Nat.{add-zero, add-comm, div-div-eq-div-mul, div-add-mod, div-eq-of-lt, mul-add-div-right, add-mul-mod-self-right, mod-lt, mod-eq-of-lt}
 use native.Mathlib.Omega.{arith}
 use mathlib.Core.Path.{_≡_, refl, sym, ap, _∙_}
-use mathlib.Core.Bool.{Bool, true, false, _&&_, false≢true}
+use mathlib.Core.Bool.{Bool, true, false, _&&_}
 use mathlib.Core.List.{List, [], _∷_, _++_}
 use lib.ListN.{length, take, drop, getD, take-append-drop, length-drop}
 use lib.Seq.{getD-drop, take-take, take-add, drop-drop}
@@ -13,6 +13,7 @@ use borrow.Author.Tests.{leb-true, ltb-true, eqb-true}
 use Rattle.outcome.specs.Packed.{bitOf}
 use Rattle.wire.specs.Numbers.{fourBytes, timeBytes, wordAt, timeAt}
 use Rattle.sitankulo.specs.Records.{timed, timeIn, dueBy, weighed, flagsOf, recordBytes, progressBy, recordIn, standing, kept, agreeing, isRecord}
+use Rattle.sitankulo.proofs.LawsTests.{and-left, and-right}
 use Rattle.sitankulo.specs.Transactions.{renewed}
 
 -- memory of bytes
@@ -128,8 +129,7 @@ time-in-back false x e = sym (eqb-true x 0 e)
 
 -- A RECORD
 both : (a b : Bool) → (a && b) ≡ true → (a ≡ true) × (b ≡ true)
-both true b e = (refl, e)
-both false b e = absurd (false≢true e)
+both a b e = (and-left a b e, and-right a b e)
 
 one : (l : List ℕ) → 1 ≤ length l → take 1 l ≡ getD l 0 0 ∷ []
 one [] h = absurd (omega arith)

@@ -2,7 +2,7 @@
 -- Assumes nothing.
 use Prim.Native.Nat.{ℕ}
 use mathlib.Core.Path.{_≡_, refl, sym}
-use mathlib.Core.Bool.{Bool, true, false, cond, not, _||_, false≢true}
+use mathlib.Core.Bool.{Bool, true, false, not, _||_, false≢true}
 use mathlib.Core.List.{List}
 use lib.ListN.{length}
 use lib.Dec.{ltb}
@@ -25,21 +25,17 @@ use Rattle.transaction.specs.declared.Begun.{Begun}
 use Rattle.transaction.specs.Deadlines.{fixedOf, dueOf}
 use Rattle.transaction.specs.Calls.{waiting, acceptedBy, begunBy, beginOf, outOfTurn, handedBy, turnHanded, nextBy, nextOf, toldAs, landedBy, turnCompleted, completeBy, completeOf, abandonOf}
 use Rattle.sitankulo.specs.Records.{standing}
+use Rattle.sitankulo.proofs.LawsTests.{by-test}
 
 abbrev pub Stands : Progress → Type 0
 Stands p = standing p ≡ true
-
--- what a test chooses has what each of the two has where it is chosen
-either : {A : Type 0} (P : A → Type 0) (t : Bool) (a b : A) → (t ≡ true → P a) → (t ≡ false → P b) → P (cond t a b)
-either P true a b h k = h refl
-either P false a b h k = k refl
 
 -- a record that is begun with is handed back or made anew
 module _ (before : Progress) (stands : Stands before) where
   begun-stands : (s : Script) (settings : Settings) (room : ℕ) (busy : Bool) (time : ℕ) → Stands (begunBy s before settings room busy time .progress)
   begun-stands (refused r) settings room busy time = stands
   begun-stands (asks os) settings room busy time =
-      either (λ (b : Begun). Stands (b .progress)) (ltb room (readTotal os)) _ _ (λ e. stands) (λ e. timed (fixedOf (settings .deadline) time)) where
+      by-test (λ (b : Begun). Stands (b .progress)) (ltb room (readTotal os)) _ _ (λ e. stands) (λ e. timed (fixedOf (settings .deadline) time)) where
         timed : (t : Timing) → Stands (acceptedBy t busy before .progress)
         timed OutOfRange = stands
         timed (Told fixed) = refl
@@ -59,10 +55,10 @@ module _ (p : Progress) (stands : Stands p) where
   handed-stands : (t : Turn) (settings : Settings) (address time : ℕ) → Stands (turnHanded t p settings address time .progress)
   handed-stands beyond settings address time = stands
   handed-stands over settings address time =
-      either (λ (h : Handed). Stands (h .progress)) (p .outstanding) _ _ (λ e. stands)
-      (λ e. either (λ (h : Handed). Stands (h .progress)) (outOfTurn p) _ _ (λ q. stands) (λ q. stands))
+      by-test (λ (h : Handed). Stands (h .progress)) (p .outstanding) _ _ (λ e. stands)
+      (λ e. by-test (λ (h : Handed). Stands (h .progress)) (outOfTurn p) _ _ (λ q. stands) (λ q. stands))
   handed-stands (turn s landing) settings address time =
-      either (λ (h : Handed). Stands (h .progress)) (outOfTurn p) _ _ (λ e. stands)
+      by-test (λ (h : Handed). Stands (h .progress)) (outOfTurn p) _ _ (λ e. stands)
       (λ e. timed e (dueOf (settings .deadline) (p .fixed) (carries s) time)) where
         timed : outOfTurn p ≡ false → (t : Timing) → Stands (handedBy t (builtOf 32 address s .list) p .progress)
         timed e OutOfRange = stands
@@ -93,10 +89,10 @@ module _ (p : Progress) (stands : Stands p) where
   turn-stands : (t : Turn) (total : ℕ) (s : Snapshot) (received room : ℕ) → Stands (turnCompleted t total p s received room .progress)
   turn-stands beyond total s received room = stands
   turn-stands over total s received room =
-      either (λ (c : Completed). Stands (c .progress)) (p .outstanding) _ _ (λ e. stands) (λ e. stands)
+      by-test (λ (c : Completed). Stands (c .progress)) (p .outstanding) _ _ (λ e. stands) (λ e. stands)
   turn-stands (turn t landing) total s received room =
-      either (λ (c : Completed). Stands (c .progress)) (not (p .outstanding)) _ _ (λ e. stands)
-      (λ e. either (λ (c : Completed). Stands (c .progress)) (ltb room total) _ _ (λ q. stands)
+      by-test (λ (c : Completed). Stands (c .progress)) (not (p .outstanding)) _ _ (λ e. stands)
+      (λ e. by-test (λ (c : Completed). Stands (c .progress)) (ltb room total) _ _ (λ q. stands)
       (λ q. told-stands (classifyOf s (p .polled) (p .due) .outcome) (classifyOf s (p .polled) (p .due) .polled)
       (receivedOf (receives t) received) (not-false (p .outstanding) e)))
 
@@ -111,4 +107,4 @@ module _ (p : Progress) (stands : Stands p) where
 
   pub abandon-stands : (s : Snapshot) → Stands (abandonOf p s .progress)
   unfolding abandonOf
-  abandon-stands s = either (λ (a : Abandoned). Stands (a .progress)) (not (p .outstanding)) _ _ (λ e. stands) (λ e. refl)
+  abandon-stands s = by-test (λ (a : Abandoned). Stands (a .progress)) (not (p .outstanding)) _ _ (λ e. stands) (λ e. refl)
