@@ -46,33 +46,46 @@ def mock_excess(counts, thing, amount):
     return counts(f'mock_{thing}', amount) - counts(f'plain_{thing}', amount)
 
 
-def print_row(name, ours, checks, original, mocks, by_hand):
-    """`mocks` is what the original's mocks do beyond one store or load for each byte or level."""
-    fair = original - mocks if original else None
-    ratio = f'{ours / fair:.2f}' if fair else ''
-    without = f'{(ours - checks) / fair:.2f}' if fair and checks else ''
-    hand_ratio = f'{by_hand / fair:.2f}' if by_hand and fair else ''
-    figures = [ours, checks or '', original or '', fair or '', ratio, without, by_hand or '', hand_ratio]
-    print(f'| {name} | ' + ' | '.join(f'{figure:,}' if isinstance(figure, int) else figure for figure in figures) + ' |')
+HEADINGS = ['what', 'ours', 'of it checking again', 'the Rust', 'without its mocks', 'ratio', 'without checking again',
+            'by hand in C', 'ratio', 'without checking again']
+
+
+def print_line(cells):
+    print('| ' + ' | '.join(f'{cell:,}' if isinstance(cell, int) else cell for cell in cells) + ' |')
+
+
+def ratios(count, checks, fair):
+    """A count's ratio to the original's, and the ratio of what is left of it without checking again."""
+    return [f'{count / fair:.2f}', f'{(count - checks) / fair:.2f}' if checks else '']
+
+
+def print_transactions(name, counts, by_hand, thing, amount, mocks):
+    """`mocks` is what the original's mocks do beyond one store or load for each byte."""
+    ours, checks = counts(f'ours_{thing}', amount), counts(f'ours_{thing}_checks', amount)
+    hand, hand_checks = by_hand(f'ours_{thing}', amount), by_hand(f'ours_{thing}_checks', amount)
+    original = counts(f'original_{thing}', amount)
+    fair = original - mocks
+    print_line([name, ours, checks, original, fair, *ratios(ours, checks, fair), hand, *ratios(hand, hand_checks, fair)])
+
+
+def print_small(name, ours, original, mocks, hand):
+    fair = original - mocks
+    print_line([name, ours, '', original, fair, *ratios(ours, 0, fair), hand, *ratios(hand, 0, fair)])
 
 
 def print_table(counts, by_hand):
-    print('| what | ours | of it checking the script again | the Rust | without its mocks | ratio | ratio without the checking '
-          '| by hand in C | its ratio |')
-    print('|---|--:|--:|--:|--:|--:|--:|--:|--:|')
-    print_row('all lists of a write of 4,093 bytes', counts('ours_write', 4093), counts('ours_write_checks', 4093),
-              counts('original_write', 4093), mock_excess(counts, 'fifo_writes', 4093), by_hand('ours_write', 4093))
-    print_row('all lists of a read of 4,096 bytes', counts('ours_read', 4096), counts('ours_read_checks', 4096),
-              counts('original_read', 4096), mock_excess(counts, 'fifo_reads', 4096), by_hand('ours_read', 4096))
+    print_line(HEADINGS)
+    print('|---|' + '--:|' * (len(HEADINGS) - 1))
+    print_transactions('all lists of a write of 4,093 bytes', counts, by_hand, 'write', 4093, mock_excess(counts, 'fifo_writes', 4093))
+    print_transactions('all lists of a read of 4,096 bytes', counts, by_hand, 'read', 4096, mock_excess(counts, 'fifo_reads', 4096))
     # a register's number and the address twice go out, two bytes come in
     mocks = mock_excess(counts, 'fifo_writes', 3000) + mock_excess(counts, 'fifo_reads', 2000)
-    print_row('a thousand register reads', counts('ours_register_reads', 1000), counts('ours_register_reads_checks', 1000),
-              counts('original_register_reads', 1000), mocks, by_hand('ours_register_reads', 1000))
-    print_row('one snapshot classified', counts('ours_classify'), 0, counts('original_classify'), 0, by_hand('ours_classify'))
+    print_transactions('a thousand register reads', counts, by_hand, 'register_reads', 1000, mocks)
+    print_small('one snapshot classified', counts('ours_classify'), counts('original_classify'), 0, by_hand('ours_classify'))
     # twenty polls with SDA low change a pin 21 times
     mocks = mock_excess(counts, 'pin_changes', 23) - mock_excess(counts, 'pin_changes', 2)
-    print_row('twenty clear polls', clear_polls(counts, 'ours'), 0, clear_polls(counts, 'original'), mocks, clear_polls(by_hand, 'ours'))
-    print_row('one list inspected', counts('ours_inspect'), 0, None, 0, None)
+    print_small('twenty clear polls', clear_polls(counts, 'ours'), clear_polls(counts, 'original'), mocks, clear_polls(by_hand, 'ours'))
+    print_line(['one list inspected', counts('ours_inspect'), *[''] * 8])
 
 
 def clear_polls(counts, whose):
@@ -80,18 +93,18 @@ def clear_polls(counts, whose):
 
 
 def print_growth(counts, name, things, amounts):
-    print(f'\n| {name} | ' + ' | '.join(f'{amount:,}' for amount in amounts) + ' |')
+    print()
+    print_line([name, *amounts])
     print('|---|' + '--:|' * len(amounts))
     for title, thing in things:
         figures = [counts(thing, amount) for amount in amounts]
-        print(f'| {title} | ' + ' | '.join(f'{figure:,}' for figure in figures) + ' |')
-        steps = [f'{late / early:.2f}' for early, late in zip(figures, figures[1:])]
-        print(f'| {title}, times the one before | | ' + ' | '.join(steps) + ' |')
+        print_line([title, *figures])
+        print_line([f'{title}, times the one before', '', *(f'{late / early:.2f}' for early, late in zip(figures, figures[1:]))])
 
 
 def print_all_growth(counts):
     for name, thing, first in [('bytes written', 'write', 511), ('bytes read', 'read', 512), ('records', 'records', 146)]:
-        things = [('ours', f'ours_{thing}'), ('of it checking the script again', f'ours_{thing}_checks'),
+        things = [('ours', f'ours_{thing}'), ('of it checking again', f'ours_{thing}_checks'),
                   ('the Rust, with its mocks', f'original_{thing}')]
         print_growth(counts, name, things, [first * times for times in (1, 2, 4, 8)])
 

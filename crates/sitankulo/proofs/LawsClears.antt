@@ -6,7 +6,7 @@ use mathlib.Core.Path.{_≡_, refl, ap, _∙_}
 use mathlib.Core.Bool.{cond}
 use mathlib.Core.List.{List, [], _∷_}
 use lib.ListN.{length, set}
-use lib.Seq.{paste, length-paste}
+use lib.Seq.{paste}
 use lib.Dec.{leb}
 use borrow.Author.Tests.{le-leb, lt-leb}
 use Rattle.wire.specs.Numbers.{timeBytes}
@@ -22,20 +22,15 @@ use Rattle.sitankulo.specs.Answers.{packed}
 use Rattle.sitankulo.specs.ClearLayout.{clearBytes}
 use Rattle.sitankulo.specs.Clears.{changesIn, roomed, ClearLeft}
 
--- two bytes, then the eight of a time, are the ten of a clear
+-- the eight bytes of a time, then the two in front of them, are the ten of a clear
 pub clear-put :
-    (old new : List ℕ) (a b t : ℕ)
+    (old timed : List ℕ) (a b t : ℕ)
     → 10 ≤ length old
-    → new
-    ≡ cond (leb (2 + 8) (length (set (set old 0 a) 1 b))) (paste (set (set old 0 a) 1 b) 2 (timeBytes t) 8)
-    (set (set old 0 a) 1 b)
-    → new ≡ paste old 0 (a ∷ b ∷ timeBytes t) 10
-clear-put [] new a b t h e = absurd (omega arith)
-clear-put (x ∷ []) new a b t h e = absurd (omega arith)
-clear-put (x ∷ y ∷ rest) new a b t h e = e ∙ simp (le-leb 10 (length (a ∷ b ∷ rest)) h)
-
-pub clear-length : (old new : List ℕ) (c : BusClear) → 10 ≤ length old → new ≡ paste old 0 (clearBytes c) 10 → length new ≡ length old
-clear-length old new c h e = ap length e ∙ length-paste old 0 (clearBytes c) 10 h (omega arith)
+    → timed ≡ cond (leb (2 + 8) (length old)) (paste old 2 (timeBytes t) 8) old
+    → set (set timed 0 a) 1 b ≡ paste old 0 (a ∷ b ∷ timeBytes t) 10
+clear-put [] timed a b t h e = absurd (omega arith)
+clear-put (x ∷ []) timed a b t h e = absurd (omega arith)
+clear-put (x ∷ y ∷ rest) timed a b t h e = rw (e, le-leb 10 (length (x ∷ y ∷ rest)) h)
 
 -- a poll makes two changes at most
 pub few-changes : (p : Pins) → length (changeBytes p) ≤ 2

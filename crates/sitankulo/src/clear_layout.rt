@@ -49,9 +49,9 @@ pub(crate) fn put_clear(clear: BusClear, memory: &mut [u8])
     ensures { λ r. ⌜ now (memory .exit) ≡ paste (now (memory .entry)) 0 (clearBytes clear) 10 ⌝ }
 {
     let state = clear.state;
+    wire::put_time(clear.wait, WAIT, memory);
     memory[0] = state_byte(state);
     memory[1] = clocks_byte(state);
-    wire::put_time(clear.wait, WAIT, memory);
 }
 
 fn hold(state: State, wait: u64) -> Decoded

@@ -6,7 +6,6 @@ ghost use lib.ListN.{length};
 ghost use lib.Seq.{paste};
 ghost use Rattle.outcome.specs.declared.Due.the-variants.{Never};
 ghost use Rattle.transaction.specs.Calls.{accepted};
-ghost use Rattle.wire.specs.Numbers.{timeBytes};
 ghost use Rattle.sitankulo.specs.Records.{timed, timeIn, dueBy, weighed, flagsOf, recordBytes, progressBy, recordIn, standing, kept, agreeing, isRecord};
 use outcome::Due;
 use transaction::Progress;
@@ -18,8 +17,6 @@ pub(crate) struct Held {
 }
 
 pub(crate) const SIZE: usize = 25;
-
-const NUMBER: usize = 8;
 
 const PLACE: usize = 1;
 
@@ -89,14 +86,6 @@ pub(crate) fn blank() -> Progress
     }
 }
 
-// Puts a number into its part of the record.
-fn put(number: u64, at: usize, state: &mut [u8])
-    requires { ⌜ at + 8 ≤ length (now state) ⌝ }
-    ensures { λ r. ⌜ now (state .exit) ≡ paste (now (state .entry)) at (timeBytes number) 8 ⌝ }
-{
-    wire::put_time(number, 0, &mut state[at..at + NUMBER]);
-}
-
 // Writes a record.
 pub(crate) fn encode(p: Progress, state: &mut [u8])
     requires { ⌜ 25 ≤ length (now state) ⌝ }
@@ -105,9 +94,8 @@ pub(crate) fn encode(p: Progress, state: &mut [u8])
     let due = p.due;
     let fixed = p.fixed;
     state[0] = flags_of(p);
-    put(p.place as u64, PLACE, state);
-    put(time_in(due), DUE, state);
-    put(time_in(fixed), FIXED, state);
+    let numbers = [p.place as u64, time_in(due), time_in(fixed)];
+    wire::put_times(&numbers, &mut state[PLACE..SIZE]);
 }
 
 fn progress_by(flags: u8, place: u64, due: u64, fixed: u64) -> Progress

@@ -1,7 +1,7 @@
 -- Laws of numbers in byte slices, for citing.
 -- Assumes nothing.
 use Prim.Native.Nat.{ℕ, suc, _+_, _-_, _*_, _/_, _%_, _≤_, _<_}
-use native.Mathlib.Nat.{add-zero, zero-add}
+use native.Mathlib.Nat.{add-zero, zero-add, zero-mul, suc-mul}
 use native.Mathlib.Numerals.{add-one}
 use native.Mathlib.Omega.{arith}
 use mathlib.Core.Path.{_≡_, refl, sym, ap, _∙_}
@@ -11,7 +11,7 @@ use lib.ListN.{length, drop, set, getD, replicate, length-append}
 use lib.Dec.{leb}
 use lib.Seq.{sets, sets-eq, paste, paste-suc, take-all, drop-cons}
 use borrow.Author.Tests.{le-leb, lt-leb}
-use Rattle.wire.specs.Numbers.{fourBytes, wordBytes, timeAt, wordsOf}
+use Rattle.wire.specs.Numbers.{laid, timeAt, wordsOf}
 
 -- a word's bytes, one after another
 pub stored : (l : List ℕ) (at a b c d : ℕ) → set (set (set (set l at a) (at + 1) b) (at + 2) c) (at + 3) d ≡ sets l at (a ∷ b ∷ c ∷ d ∷ [])
@@ -31,29 +31,32 @@ sets-append (x ∷ xs) ys l at =
 pub stored-all : (vs l : List ℕ) (at : ℕ) → at + length vs ≤ length l → sets l at vs ≡ paste l at vs (length vs)
 stored-all vs l at h = sets-eq vs l at h ∙ rw (take-all (length vs) vs (omega arith))
 
-pub word-size : (words : List ℕ) → length (wordBytes words) ≡ length words * 4
-unfolding wordBytes
-word-size [] = refl
-word-size (w ∷ words) = length-append (fourBytes w) (wordBytes words) ∙ rw (word-size words) (omega arith)
+-- numbers one after another, each of so many bytes
+module _ (bytes : ℕ → List ℕ) (size : ℕ) (sized : (n : ℕ) → length (bytes n) ≡ size) where
+  pub laid-size : (ns : List ℕ) → length (laid bytes ns) ≡ length ns * size
+  unfolding laid
+  laid-size [] = sym (zero-mul size)
+  laid-size (n ∷ ns) =
+      length-append (bytes n) (laid bytes ns) ∙ rw (sized n, laid-size ns, suc-mul (length ns) size) (omega arith)
 
--- eight words, word by word: what is left gives the whole answer
-pub word-stored :
-    (words l : List ℕ) (i : ℕ)
-    → i < length words
-    → sets (sets l (i * 4) (fourBytes (getD words i 0))) ((i + 1) * 4) (wordBytes (drop (i + 1) words)) ≡ sets l (i * 4) (wordBytes (drop i words))
-unfolding wordBytes
-word-stored words l i h =
-    let further : (i + 1) * 4 ≡ i * 4 + 4 = omega arith in
-    rw (further, add-one i, drop-cons words i 0)
-    (sets-append (fourBytes (getD words i 0)) (wordBytes (drop (suc i) words)) l (i * 4))
+  -- number by number: what is left gives the whole answer
+  pub next-laid :
+      (ns l : List ℕ) (i : ℕ)
+      → i < length ns
+      → sets (sets l (i * size) (bytes (getD ns i 0))) ((i + 1) * size) (laid bytes (drop (i + 1) ns))
+      ≡ sets l (i * size) (laid bytes (drop i ns))
+  unfolding laid
+  next-laid ns l i h =
+      let further : suc i * size ≡ i * size + length (bytes (getD ns i 0)) = suc-mul i size ∙ rw (sized (getD ns i 0)) (omega arith) in
+      rw (add-one i, further, drop-cons ns i 0) (sets-append (bytes (getD ns i 0)) (laid bytes (drop (suc i) ns)) l (i * size))
 
--- where there is no room, nothing; where there is, the bytes
-module _ (at n : ℕ) (l vs : List ℕ) where
-  pub no-room : length l < at + n → l ≡ cond (leb (at + n) (length l)) (paste l at vs n) l
-  no-room h = rw (lt-leb (at + n) (length l) h)
+-- up to an end: where there is no room, nothing; where there is, the bytes
+module _ (at n end : ℕ) (ends : at + n ≡ end) (l vs : List ℕ) where
+  pub no-room : length l < end → l ≡ cond (leb end (length l)) (paste l at vs n) l
+  no-room h = rw (lt-leb end (length l) h)
 
-  pub put : length vs ≡ n → at + n ≤ length l → sets l at vs ≡ cond (leb (at + n) (length l)) (paste l at vs n) l
-  put e h = stored-all vs l at (omega (arith, e)) ∙ rw (le-leb (at + n) (length l) h, e)
+  pub put : length vs ≡ n → end ≤ length l → sets l at vs ≡ cond (leb end (length l)) (paste l at vs n) l
+  put e h = stored-all vs l at (omega (arith, e, ends)) ∙ rw (le-leb end (length l) h, e)
 
 -- one byte more is copied
 pub copied :

@@ -6,12 +6,19 @@ use lib.ListN.{getD}
 abbrev pub fourBytes : ℕ → List ℕ
 fourBytes word = word / 0x1000000 % 256 ∷ word / 0x10000 % 256 ∷ word / 0x100 % 256 ∷ word % 256 ∷ []
 
-unfoldable pub wordBytes : List ℕ → List ℕ
-wordBytes [] = []
-wordBytes (word ∷ words) = fourBytes word ++ wordBytes words
-
 abbrev pub timeBytes : ℕ → List ℕ
 timeBytes time = fourBytes (time / 0x100000000) ++ fourBytes (time % 0x100000000)
+
+-- numbers one after another, each in its bytes
+unfoldable pub laid : (ℕ → List ℕ) → List ℕ → List ℕ
+laid bytes [] = []
+laid bytes (n ∷ ns) = bytes n ++ laid bytes ns
+
+abbrev pub wordBytes : List ℕ → List ℕ
+wordBytes = laid fourBytes
+
+abbrev pub timesBytes : List ℕ → List ℕ
+timesBytes = laid timeBytes
 
 -- what is read at a place
 unfoldable pub wordAt : List ℕ → ℕ → ℕ

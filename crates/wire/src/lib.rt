@@ -5,7 +5,7 @@ ghost use Prim.Native.Nat.{_+_, _*_, _≤_};
 ghost use lib.ListN.{length, replicate};
 ghost use lib.Seq.{paste, sets};
 ghost use lib.Dec.{leb};
-ghost use Rattle.wire.specs.Numbers.{fourBytes, wordBytes, timeBytes, wordAt, timeAt, wordsOf};
+ghost use Rattle.wire.specs.Numbers.{fourBytes, wordBytes, timeBytes, timesBytes, wordAt, timeAt, wordsOf};
 
 const WORD: usize = 4;
 
@@ -86,6 +86,15 @@ pub fn put_words(words: [u32; 8], out: &mut [u8])
     }
 }
 
+// Puts a number of eight bytes at a place.
+fn put_long(number: u64, at: usize, out: &mut [u8])
+    requires { ⌜ at + 8 ≤ length (now out) ⌝ }
+    ensures { λ r. ⌜ now (out .exit) ≡ sets (now (out .entry)) at (timeBytes number) ⌝ }
+{
+    put_word((number / 0x1_0000_0000) as u32, at, out);
+    put_word((number % 0x1_0000_0000) as u32, at + WORD, out);
+}
+
 // Puts a number of eight bytes at a place, where there is room for it.
 pub fn put_time(time: u64, at: usize, out: &mut [u8])
     ensures { λ r. ⌜ now (out .exit)
@@ -97,8 +106,23 @@ pub fn put_time(time: u64, at: usize, out: &mut [u8])
     if out.len() - TIME < at {
         return;
     }
-    put_word((time / 0x1_0000_0000) as u32, at, out);
-    put_word((time % 0x1_0000_0000) as u32, at + WORD, out);
+    put_long(time, at, out);
+}
+
+// Puts numbers of eight bytes in front, one after another, where there is room for them.
+pub fn put_times(times: &[u64], out: &mut [u8])
+    ensures { λ r. ⌜ now (out .exit)
+        ≡ cond (leb (length (now (times .entry)) * 8) (length (now (out .entry))))
+        (paste (now (out .entry)) 0 (timesBytes (now (times .entry))) (length (now (times .entry)) * 8)) (now (out .entry)) ⌝ }
+{
+    if out.len() / TIME < times.len() {
+        return;
+    }
+    let mut i = 0;
+    while i < times.len() {
+        put_long(times[i], i * TIME, out);
+        i += 1;
+    }
 }
 
 // Puts the first n bytes in front, where both have so many.

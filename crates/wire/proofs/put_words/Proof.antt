@@ -7,8 +7,8 @@ use mathlib.Core.List.{List}
 use lib.ListN.{length, drop, getD, drop-of-length-le}
 use lib.Seq.{sets, length-sets}
 use borrow.Author.Needs.{needs}
-use Rattle.wire.specs.Numbers.{fourBytes, wordBytes}
-use Rattle.wire.proofs.Laws.{word-size, word-stored, no-room, put}
+use Rattle.wire.specs.Numbers.{fourBytes, laid, wordBytes}
+use Rattle.wire.proofs.Laws.{laid-size, next-laid, no-room, put}
 use Rattle.wire.proofs.put_words.Statement.{statement}
 use Rattle.wire.proofs.put_words.Tie as tie
 use Rattle.wire.proofs.put_word.Reads as put-word-reads
@@ -24,7 +24,7 @@ abbrev μ-loop : tie.MeasureT-loop
 returns : tie.Need-returns Inv-loop μ-loop
 returns c =
     let args = c .before .before .args in
-    no-room 0 32 (args .out .now) (wordBytes (args .t1)) (c .if1 .taken)
+    no-room 0 32 32 refl (args .out .now) (wordBytes (args .t1)) (c .if1 .taken)
 
 loop-holds : tie.Need-loop-holds Inv-loop μ-loop
 loop-holds c = (omega arith, search needs, omega (arith, c .if1 .left), refl, refl)
@@ -59,7 +59,7 @@ loop-again c =
       l .inv .2,
       ap length stored ∙ length-sets (l .out) (l .i * 4) (fourBytes (getD (args .t1) (l .i) 0)) ∙ l .inv .3,
       ap (λ (b : List ℕ). sets b ((l .i + 1) * 4) (wordBytes (drop (l .i + 1) (args .t1)))) stored
-          ∙ word-stored (args .t1) (l .out) (l .i) (omega arith)
+          ∙ next-laid fourBytes 4 (λ (n : ℕ). refl) (args .t1) (l .out) (l .i) (omega arith)
           ∙ l .inv .4,
     )
 
@@ -67,13 +67,13 @@ same-length : tie.Need-same-length Inv-loop μ-loop
 same-length c = c .before .loop .inv .3
 
 returns-2 : tie.Need-returns-2 Inv-loop μ-loop
-unfolding wordBytes
+unfolding laid
 returns-2 c =
     let args = c .before .before .before .before .args in
     let l = c .before .loop in
     let all = drop-of-length-le (args .t1) {i = l .i} (omega arith) in
     let whole : l .out ≡ sets (args .out .now) 0 (wordBytes (args .t1)) = rw all at (l .inv .4) in
-    whole ∙ put 0 32 (args .out .now) (wordBytes (args .t1)) (word-size (args .t1) ∙ rw (l .inv .1)) (l .inv .2)
+    whole ∙ put 0 32 32 refl (args .out .now) (wordBytes (args .t1)) (laid-size fourBytes 4 (λ (n : ℕ). refl) (args .t1) ∙ rw (l .inv .1)) (l .inv .2)
 
 pub put-words-spec : {M : Type 1} → statement M
 put-words-spec =

@@ -27,18 +27,15 @@ pub fn collected<R>(done: impl FnOnce() -> R) -> R {
 
 /// Leaves out what is done here, while something is collected.
 #[inline(never)]
-pub fn left_out(done: impl FnOnce()) {
+pub fn left_out<R>(done: impl FnOnce() -> R) -> R {
     toggle();
     PAUSES.set(PAUSES.get() + 1);
-    done();
+    let answer = done();
     toggle();
+    answer
 }
 
 /// How often something was left out; each time a few instructions of the toggling itself are collected.
 pub fn pauses() -> usize {
     PAUSES.get()
-}
-
-pub fn forget_pauses() {
-    PAUSES.set(0);
 }

@@ -89,7 +89,6 @@ fn main() {
 
 fn ours_is_counted(thing: &str, amount: usize) -> bool {
     let mut buffer = vec![0; amount];
-    let register_read = [1, 0, 7, 0, 1, 0, 0xA0, 0, 2, 1];
     let words = bytes(DONE);
     let listed = bytes([0x3000, 0x0902, 0x2000, 0, 0, 0, 0, 0]);
     match thing {
@@ -100,8 +99,12 @@ fn ours_is_counted(thing: &str, amount: usize) -> bool {
         "ours_read_checks" => checks(&script_of_one(1, amount), &mut buffer),
         "ours_records" => transaction(&script_of_records(amount), &mut buffer),
         "ours_records_checks" => checks(&script_of_records(amount), &mut buffer),
-        "ours_register_reads" => collected(|| ours::ours_register_reads(amount)),
-        "ours_register_reads_checks" => collected(|| ours::ours_checks(&register_read, 5 * amount)),
+        "ours_register_reads" => {
+            collected(|| ours::ours_register_reads(amount, ours::ours_transaction))
+        }
+        "ours_register_reads_checks" => {
+            collected(|| ours::ours_register_reads(amount, ours::ours_checks))
+        }
         "ours_classify" => collected(|| ours::ours_classify(0x60, &words, 5)),
         "ours_clear" => collected(|| ours::ours_clear(amount)),
         "ours_inspect" => collected(|| ours::ours_inspect(&listed, &[0x52, 0xA0])),
@@ -146,9 +149,6 @@ fn transaction(script: &[u8], buffer: &mut [u8]) {
     collected(|| ours::ours_transaction(script, buffer));
 }
 
-/// As many checks as the calls after begin make: two for each list, and one for the last that finds none.
 fn checks(script: &[u8], buffer: &mut [u8]) {
-    let lists = ours::ours_transaction(script, buffer);
-    collect::forget_pauses();
-    collected(|| ours::ours_checks(script, 2 * lists + 1));
+    collected(|| ours::ours_checks(script, buffer));
 }

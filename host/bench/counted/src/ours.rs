@@ -43,100 +43,139 @@ fn controller_completes(words: &mut [u8; 32]) {
     }
 }
 
-/// The next list, at time 0 and without a deadline.
-#[inline(always)]
-fn next(record: &mut [u8; 25], script: &[u8], words: &mut [u8; 32], fifo: &mut [u8; 32]) -> u32 {
-    // SAFETY: every pointer comes with its length.
-    unsafe {
-        sitankulo_next(
-            record.as_mut_ptr(),
-            25,
-            0,
-            0,
-            ADDRESS,
-            script.as_ptr(),
-            script.len(),
-            0,
-            words.as_mut_ptr(),
-            32,
-            fifo.as_mut_ptr(),
-            32,
-        )
-    }
+/// A transaction at time 0 and without a deadline, and what it is driven with.
+struct Transaction<'a> {
+    script: &'a [u8],
+    buffer: &'a mut [u8],
+    record: [u8; 25],
+    words: [u8; 32],
+    fifo: [u8; 32],
 }
 
-/// A transaction from begin to its end; how many lists it took.
-#[inline(never)]
-pub fn ours_transaction(script: &[u8], buffer: &mut [u8]) -> usize {
-    let (mut record, mut words, mut fifo) = ([0; 25], [0; 32], [0; 32]);
-    let mut registers = Registers {
-        commands: [0; 8],
-        fifo: 0,
-    };
-    let received = [0; 32];
-    // SAFETY: every pointer comes with its length.
-    unsafe {
-        let begun = sitankulo_begin(
-            record.as_mut_ptr(),
-            25,
-            0,
-            0,
-            ADDRESS,
-            script.as_ptr(),
-            script.len(),
-            buffer.len(),
-            0,
-            0,
-        );
-        assert_eq!(begun, 0);
-        for lists in 0.. {
-            let handed = next(&mut record, script, &mut words, &mut fifo);
-            if handed == NONE {
-                return lists;
-            }
-            assert_eq!(handed & 0xff, 0);
-            load(&mut registers, &words, &fifo[..(handed >> 8) as usize]);
-            collect::left_out(|| controller_completes(&mut words));
-            let completed = sitankulo_complete(
+impl<'a> Transaction<'a> {
+    #[inline(always)]
+    fn begin(script: &'a [u8], buffer: &'a mut [u8]) -> Self {
+        let mut record = [0; 25];
+        // SAFETY: every pointer comes with its length.
+        let begun = unsafe {
+            sitankulo_begin(
                 record.as_mut_ptr(),
                 25,
+                0,
+                0,
                 ADDRESS,
                 script.as_ptr(),
                 script.len(),
+                buffer.len(),
+                0,
+                0,
+            )
+        };
+        assert_eq!(begun, 0);
+        Transaction {
+            script,
+            buffer,
+            record,
+            words: [0; 32],
+            fifo: [0; 32],
+        }
+    }
+
+    #[inline(always)]
+    fn next(&mut self) -> u32 {
+        // SAFETY: as above.
+        unsafe {
+            sitankulo_next(
+                self.record.as_mut_ptr(),
+                25,
+                0,
+                0,
+                ADDRESS,
+                self.script.as_ptr(),
+                self.script.len(),
+                0,
+                self.words.as_mut_ptr(),
+                32,
+                self.fifo.as_mut_ptr(),
+                32,
+            )
+        }
+    }
+
+    #[inline(always)]
+    fn complete(&mut self) -> u32 {
+        let received = [0; 32];
+        // SAFETY: as above.
+        unsafe {
+            sitankulo_complete(
+                self.record.as_mut_ptr(),
+                25,
+                ADDRESS,
+                self.script.as_ptr(),
+                self.script.len(),
                 COMPLETED,
-                words.as_ptr(),
+                self.words.as_ptr(),
                 32,
                 0,
                 received.as_ptr(),
                 32,
-                buffer.as_mut_ptr(),
-                buffer.len(),
-            );
-            assert_eq!(completed, 0);
+                self.buffer.as_mut_ptr(),
+                self.buffer.len(),
+            )
         }
     }
-    unreachable!()
 }
 
+/// A transaction from begin to its end.
 #[inline(never)]
-pub fn ours_register_reads(times: usize) -> usize {
-    let mut lists = 0;
+pub fn ours_transaction(script: &[u8], buffer: &mut [u8]) {
+    let mut transaction = Transaction::begin(script, buffer);
+    let mut registers = Registers {
+        commands: [0; 8],
+        fifo: 0,
+    };
+    loop {
+        let handed = transaction.next();
+        if handed == NONE {
+            return;
+        }
+        assert_eq!(handed & 0xff, 0);
+        let count = (handed >> 8) as usize;
+        load(
+            &mut registers,
+            &transaction.words,
+            &transaction.fifo[..count],
+        );
+        collect::left_out(|| controller_completes(&mut transaction.words));
+        assert_eq!(transaction.complete(), 0);
+    }
+}
+
+/// What a transaction's calls check again, and nothing else: address, script, record and place. Out of turn a call is refused right after
+/// that: completion with no list outstanding, and a next list with one.
+#[inline(never)]
+pub fn ours_checks(script: &[u8], buffer: &mut [u8]) {
+    let mut transaction = collect::left_out(|| Transaction::begin(script, buffer));
+    loop {
+        assert_eq!(transaction.complete(), OUT_OF_TURN);
+        if collect::left_out(|| transaction.next()) == NONE {
+            return;
+        }
+        assert_eq!(transaction.next(), OUT_OF_TURN);
+        collect::left_out(|| {
+            controller_completes(&mut transaction.words);
+            assert_eq!(transaction.complete(), 0);
+        });
+    }
+}
+
+/// Register reads by an operation of one byte and one of two.
+#[inline(never)]
+pub fn ours_register_reads(times: usize, read: fn(&[u8], &mut [u8])) {
     for register in 0..times {
         let mut buffer = [0; 2];
         let script = [1, 0, 7, 0, 1, 0, register as u8, 0, 2, 1];
-        lists += ours_transaction(&script, &mut buffer);
-    }
-    lists
-}
-
-/// So many calls that check the script and go no further: the record is none of ours, which is looked at next.
-#[inline(never)]
-pub fn ours_checks(script: &[u8], calls: usize) {
-    let (mut words, mut fifo) = ([0; 32], [0; 32]);
-    let mut foreign = [0xff; 25];
-    for _ in 0..calls {
-        let refused = next(&mut foreign, script, &mut words, &mut fifo);
-        assert_eq!(refused, SHAPE);
+        read(&script, &mut buffer);
     }
 }
 

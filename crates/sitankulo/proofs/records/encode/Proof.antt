@@ -1,8 +1,14 @@
 -- `sitankulo::records::encode` meets its contract.
 -- Assumes nothing.
+use Prim.Native.Nat.{_≤_}
 use native.Mathlib.Omega.{arith}
-use lib.ListN.{length-set}
-use Rattle.sitankulo.proofs.LawsRecords.{placed-long, dated-long, encoded, encoded-length}
+use mathlib.Core.Path.{ap, _∙_}
+use mathlib.Core.List.{[], _∷_}
+use lib.ListN.{length, set, length-set}
+use lib.Seq.{length-paste}
+use Rattle.wire.specs.Numbers.{laid, timesBytes}
+use Rattle.sitankulo.specs.Records.{recordBytes}
+use Rattle.sitankulo.proofs.LawsRecords.{part-put, encoded}
 use borrow.Author.Needs.{needs}
 use Rattle.sitankulo.proofs.records.encode.Statement.{statement}
 use Rattle.sitankulo.proofs.records.encode.Tie as tie
@@ -13,49 +19,45 @@ flags-of-requires c κs = search needs
 slice-write-state : tie.Need-slice-write-state
 slice-write-state c = search needs
 
-put-requires : tie.Need-put-requires
-put-requires c κs = rw length-set (omega (arith, c .before .before .before .pre))
-
 time-in-requires : tie.Need-time-in-requires
 time-in-requires c κs = search needs
-
-put-requires-2 : tie.Need-put-requires-2
-put-requires-2 c κs =
-    let first = c .before .before .before .before in
-    let start = first .before .before .before .before in
-    placed-long (start .args .p) (start .args .state .now) (start .pre) (first .before .before .flags-of .result) (first .before .before .flags-of .ensures) _
-    (first .put .ensures)
 
 time-in-requires-2 : tie.Need-time-in-requires-2
 time-in-requires-2 c κs = search needs
 
-put-requires-3 : tie.Need-put-requires-3
-put-requires-3 c κs =
-    let second = c .before .before .before .before in
-    let first = second .before .before .before .before .before in
-    let start = first .before .before .before .before in
-    dated-long (start .args .p) (start .args .state .now) (start .pre) (first .before .before .flags-of .result) (first .before .before .flags-of .ensures) _
-    (first .put .ensures) (second .before .before .time-in .result) (second .before .before .time-in .ensures) _ (second .put2 .ensures)
+slice-aggregate-put-times : tie.Need-slice-aggregate-put-times
+slice-aggregate-put-times c = search needs
 
-same-length : tie.Need-same-length
-same-length c =
-    let third = c .before .before in
-    let second = third .before .before .before .before .before in
-    let first = second .before .before .before .before .before in
-    let start = first .before .before .before .before in
-    encoded-length (start .args .p) (start .args .state .now) (start .pre) (first .before .before .flags-of .result) (first .before .before .flags-of .ensures) _
-    (first .put .ensures) (second .before .before .time-in .result) (second .before .before .time-in .ensures) _ (second .put2 .ensures)
-    (third .before .before .time-in2 .result) (third .before .before .time-in2 .ensures) _ (third .put3 .ensures)
+sub-put-times : tie.Need-sub-put-times
+sub-put-times c = search needs
+
+part-put-times-start : tie.Need-part-put-times-start
+part-put-times-start c = search needs
+
+part-put-times-end : tie.Need-part-put-times-end
+part-put-times-end c = search needs
+
+put-times-requires : tie.Need-put-times-requires
+put-times-requires c κs = search needs
 
 returns : tie.Need-returns
+unfolding laid
 returns c =
-    let third = c .before .before in
-    let second = third .before .before .before .before .before in
-    let first = second .before .before .before .before .before in
-    let start = first .before .before .before .before in
-    encoded (start .args .p) (start .args .state .now) (start .pre) (first .before .before .flags-of .result) (first .before .before .flags-of .ensures) _
-    (first .put .ensures) (second .before .before .time-in .result) (second .before .before .time-in .ensures) _ (second .put2 .ensures)
-    (third .before .before .time-in2 .result) (third .before .before .time-in2 .ensures) _ (third .put3 .ensures)
+    let timed = c .before .before .before .before .before in
+    let flagged = timed .before .before in
+    let start = flagged .before .before in
+    let state = start .args .state .now in
+    let flags = flagged .flags-of .result in
+    let long : 25 ≤ length (set state 0 flags) = rw length-set (start .pre) in
+    let bytes = timesBytes (start .args .p .place ∷ timed .before .time-in .result ∷ timed .time-in2 .result ∷ []) in
+    encoded (start .args .p) state _ flags _ _ (start .pre) (flagged .flags-of .ensures) (timed .before .time-in .ensures) (timed .time-in2 .ensures)
+    (part-put (set state 0 flags) _ bytes 1 24 long (c .before .before .put-times .ensures))
+
+same-length : tie.Need-same-length
+unfolding recordBytes
+same-length c =
+    let start = c .before .before .before .before .before .before .before .before .before in
+    ap length (returns c) ∙ length-paste (start .args .state .now) 0 (recordBytes (start .args .p)) 25 (start .pre) (omega arith)
 
 pub encode-spec : {M : Type 1} → statement M
 encode-spec =
@@ -63,10 +65,12 @@ encode-spec =
     (tie.spec
     flags-of-requires
     slice-write-state
-    put-requires
     time-in-requires
-    put-requires-2
     time-in-requires-2
-    put-requires-3
+    slice-aggregate-put-times
+    sub-put-times
+    part-put-times-start
+    part-put-times-end
+    put-times-requires
     same-length
     returns)
