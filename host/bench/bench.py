@@ -46,46 +46,42 @@ def mock_excess(counts, thing, amount):
     return counts(f'mock_{thing}', amount) - counts(f'plain_{thing}', amount)
 
 
-HEADINGS = ['what', 'ours', 'of it checking again', 'the Rust', 'without its mocks', 'ratio', 'without checking again',
-            'by hand in C', 'ratio', 'without checking again']
+HEADINGS = ['what', 'ours', 'of it checking again', 'the Rust', 'ratio', 'without checking again',
+            'the Rust without its mocks', 'ratio', 'without checking again', 'by hand in C']
 
 
 def print_line(cells):
     print('| ' + ' | '.join(f'{cell:,}' if isinstance(cell, int) else cell for cell in cells) + ' |')
 
 
-def ratios(count, checks, fair):
-    """A count's ratio to the original's, and the ratio of what is left of it without checking again."""
-    return [f'{count / fair:.2f}', f'{(count - checks) / fair:.2f}' if checks else '']
+def compared(ours, checks, other):
+    """The other's count, our ratio to it, and the ratio of what is left of ours without checking again."""
+    return [other, f'{ours / other:.2f}', f'{(ours - checks) / other:.2f}' if checks else '']
 
 
-def print_transactions(name, counts, by_hand, thing, amount, mocks):
-    """`mocks` is what the original's mocks do beyond one store or load for each byte."""
-    ours, checks = counts(f'ours_{thing}', amount), counts(f'ours_{thing}_checks', amount)
-    hand, hand_checks = by_hand(f'ours_{thing}', amount), by_hand(f'ours_{thing}_checks', amount)
-    original = counts(f'original_{thing}', amount)
-    fair = original - mocks
-    print_line([name, ours, checks, original, fair, *ratios(ours, checks, fair), hand, *ratios(hand, hand_checks, fair)])
+def print_row(name, ours, checks, original, mocks, hand):
+    """`mocks` is what the original's mocks do beyond one store or load for each byte or level."""
+    print_line([name, ours, checks or '', *compared(ours, checks, original), *compared(ours, checks, original - mocks), hand])
 
 
-def print_small(name, ours, original, mocks, hand):
-    fair = original - mocks
-    print_line([name, ours, '', original, fair, *ratios(ours, 0, fair), hand, *ratios(hand, 0, fair)])
+def print_transaction(name, counts, by_hand, thing, amount, mocks):
+    print_row(name, counts(f'ours_{thing}', amount), counts(f'ours_{thing}_checks', amount), counts(f'original_{thing}', amount), mocks,
+              by_hand(f'ours_{thing}', amount))
 
 
 def print_table(counts, by_hand):
     print_line(HEADINGS)
     print('|---|' + '--:|' * (len(HEADINGS) - 1))
-    print_transactions('all lists of a write of 4,093 bytes', counts, by_hand, 'write', 4093, mock_excess(counts, 'fifo_writes', 4093))
-    print_transactions('all lists of a read of 4,096 bytes', counts, by_hand, 'read', 4096, mock_excess(counts, 'fifo_reads', 4096))
+    print_transaction('all lists of a write of 4,093 bytes', counts, by_hand, 'write', 4093, mock_excess(counts, 'fifo_writes', 4093))
+    print_transaction('all lists of a read of 4,096 bytes', counts, by_hand, 'read', 4096, mock_excess(counts, 'fifo_reads', 4096))
     # a register's number and the address twice go out, two bytes come in
     mocks = mock_excess(counts, 'fifo_writes', 3000) + mock_excess(counts, 'fifo_reads', 2000)
-    print_transactions('a thousand register reads', counts, by_hand, 'register_reads', 1000, mocks)
-    print_small('one snapshot classified', counts('ours_classify'), counts('original_classify'), 0, by_hand('ours_classify'))
+    print_transaction('a thousand register reads', counts, by_hand, 'register_reads', 1000, mocks)
+    print_row('one snapshot classified', counts('ours_classify'), 0, counts('original_classify'), 0, by_hand('ours_classify'))
     # twenty polls with SDA low change a pin 21 times
     mocks = mock_excess(counts, 'pin_changes', 23) - mock_excess(counts, 'pin_changes', 2)
-    print_small('twenty clear polls', clear_polls(counts, 'ours'), clear_polls(counts, 'original'), mocks, clear_polls(by_hand, 'ours'))
-    print_line(['one list inspected', counts('ours_inspect'), *[''] * 8])
+    print_row('twenty clear polls', clear_polls(counts, 'ours'), 0, clear_polls(counts, 'original'), mocks, clear_polls(by_hand, 'ours'))
+    print_line(['one list inspected', counts('ours_inspect'), *[''] * (len(HEADINGS) - 2)])
 
 
 def clear_polls(counts, whose):
