@@ -1,5 +1,7 @@
 // The bus clear, whose record travels in lent memory.
 ghost use mathlib.Core.Path.{_≡_};
+ghost use Rattle.sitankulo.specs.ClearLayout.{holding};
+ghost use Rattle.sitankulo.specs.declared.clear_layout.Decoded.the-variants.{Held};
 ghost use Rattle.sitankulo.specs.Clears.{pollTold, stepTold, roomed, freshCall, stepCall, ClearLeft};
 use crate::answer;
 use crate::changes;
@@ -8,6 +10,7 @@ use crate::clear_layout::Decoded;
 use bus_clear::Answer;
 use bus_clear::BusClear;
 use bus_clear::Pins;
+use bus_clear::State;
 
 // What a call tells: a refusal, or a number with the clear that it leaves and its pin changes.
 enum Telling {
@@ -50,17 +53,55 @@ fn tell_poll(told: Answer, next: BusClear) -> Telling
     }
 }
 
-fn tell_step(decoded: Decoded, pins: u8, time: u64, sda: u8) -> Telling
-    ensures { λ r. ⌜ r ≡ stepTold decoded pins time sda ⌝ }
+// A poll of a clear in a state.
+fn step_in(
+    state: State,
+    wait: u64,
+    pins: u8,
+    time: u64,
+    sda: u8,
+    clear: &mut [u8],
+    changes: &mut [u8],
+) -> u32
+    ensures { λ r. ⌜ ClearLeft (roomed (stepTold (holding state wait) pins time sda) (now (clear .entry)) (now (changes .entry)))
+        r (now (clear .entry)) (now (clear .exit)) (now (changes .entry)) (now (changes .exit)) ⌝ }
 {
-    match decoded {
-        Decoded::Foreign => Telling::Refuses(answer::SHAPE),
-        Decoded::Held(clear) => {
-            let stepped = bus_clear::step(clear, pins != 0, time, sda != 0);
-            let told = stepped.answer;
-            let next = stepped.next;
-            tell_poll(told, next)
-        }
+    let held = BusClear {
+        state: state,
+        wait: wait,
+    };
+    let stepped = bus_clear::step(held, pins != 0, time, sda != 0);
+    let told = stepped.answer;
+    let next = stepped.next;
+    lay(tell_poll(told, next), clear, changes)
+}
+
+// A poll of its own for each state, so that the compiler tells them apart once.
+fn step_held(
+    held: BusClear,
+    pins: u8,
+    time: u64,
+    sda: u8,
+    clear: &mut [u8],
+    changes: &mut [u8],
+) -> u32
+    ensures { λ r. ⌜ ClearLeft (roomed (stepTold (Held held) pins time sda) (now (clear .entry)) (now (changes .entry)))
+        r (now (clear .entry)) (now (clear .exit)) (now (changes .entry)) (now (changes .exit)) ⌝ }
+{
+    let state = held.state;
+    let wait = held.wait;
+    match state {
+        State::Idle => step_in(State::Idle, wait, pins, time, sda, clear, changes),
+        State::SendStop => step_in(State::SendStop, wait, pins, time, sda, clear, changes),
+        State::SendClock(n, high) => step_in(
+            State::SendClock(n, high),
+            wait,
+            pins,
+            time,
+            sda,
+            clear,
+            changes,
+        ),
     }
 }
 
@@ -94,5 +135,8 @@ pub extern "C" fn sitankulo_clear_step(
         r (now (clear .entry)) (now (clear .exit)) (now (changes .entry)) (now (changes .exit)) ⌝ }
 {
     let decoded = clear_layout::decode(clear);
-    lay(tell_step(decoded, pins, time, sda), clear, changes)
+    match decoded {
+        Decoded::Foreign => answer::SHAPE,
+        Decoded::Held(held) => step_held(held, pins, time, sda, clear, changes),
+    }
 }

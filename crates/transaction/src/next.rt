@@ -81,26 +81,26 @@ fn build(address: u32, script: &[u8], found: Found) -> CommandList
     }
 }
 
-// Hands a list out, if the time at which it is due can be told.
-fn hand_out(timing: Timing, list: CommandList, p: Progress) -> Handed
-    ensures { λ r. ⌜ r ≡ handedBy timing list p ⌝ }
+// Hands the list of a piece out, if the time at which it is due can be told.
+fn hand_out(timing: Timing, address: u32, script: &[u8], found: Found, p: Progress) -> Handed
+    requires { ⌜ Inside (length (now script)) found ⌝ }
+    ensures { λ r. ⌜ r ≡ handedBy timing (listFor address (now (script .entry)) found) p ⌝ }
 {
     match timing {
         Timing::OutOfRange => without_list(Handing::Refused(Refusal::ClockRange), p),
         Timing::Told(due) => {
             let fixed = p.fixed;
-            let progress = Progress {
-                place: p.place,
-                outstanding: true,
-                due: due,
-                polled: false,
-                failed: p.failed,
-                fixed: fixed,
-            };
             Handed {
                 answer: Handing::Listed,
-                list: list,
-                progress: progress,
+                list: build(address, script, found),
+                progress: Progress {
+                    place: p.place,
+                    outstanding: true,
+                    due: due,
+                    polled: false,
+                    failed: p.failed,
+                    fixed: fixed,
+                },
             }
         }
     }
@@ -133,5 +133,5 @@ pub(crate) fn hand_turn(
     let deadline = settings.deadline;
     let fixed = p.fixed;
     let timing = deadlines::list_due(deadline, fixed, walk::size_of(found), time);
-    hand_out(timing, build(address, script, found), p)
+    hand_out(timing, address, script, found, p)
 }

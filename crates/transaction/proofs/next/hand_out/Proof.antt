@@ -17,9 +17,12 @@ enum-known-timing c = search needs
 returns : tie.Need-returns
 returns c = rw (c .before .enum-told .given .1, c .without-list .ensures)
 
+build-requires : tie.Need-build-requires
+build-requires c κs = search needs
+
 returns-2 : tie.Need-returns-2
-returns-2 c = rw (c .before .timing .given .1)
+returns-2 c = rw (c .before .before .timing .given .1, c .build .ensures)
 
 pub hand-out-spec : {M : Type 1} → statement M
 hand-out-spec =
-    tie.close (tie.spec enum-told without-list-requires enum-known-timing returns returns-2)
+    tie.close (tie.spec enum-told without-list-requires enum-known-timing build-requires returns returns-2)

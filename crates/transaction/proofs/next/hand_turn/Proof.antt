@@ -9,7 +9,6 @@ use Rattle.transaction.proofs.LawsTurn.{size-most, outstanding-out, fai
 use borrow.Author.Needs.{needs}
 use Rattle.transaction.proofs.next.hand_turn.Statement.{statement}
 use Rattle.transaction.proofs.next.hand_turn.Tie as tie
-use Rattle.transaction.proofs.next.build.Reads as build-reads
 use Rattle.transaction.proofs.next.hand_out.Reads as hand-out-reads
 use Rattle.transaction.proofs.deadlines.list_due.Reads as list-due-reads
 use Rattle.transaction.proofs.walk.is_misplaced.Reads as is-misplaced-reads
@@ -87,21 +86,17 @@ list-due-requires c κs =
     let found = c .before .before .before .before .before .before .before .locate in
     omega (arith, c .size-of .ensures, size-most (length (args .script .now)) (found .result) (found .ensures .1))
 
-build-requires : tie.Need-build-requires
-build-requires c κs = search needs
-
 hand-out-requires : tie.Need-hand-out-requires
 hand-out-requires c κs = search needs
 
 returns-5 : tie.Need-returns-5
 returns-5 c =
-    let args = c .before .before .before .before .before .before .before .before .before .before .before .before .args in
-    let found = c .before .before .before .before .before .before .before .before .before .before .locate in
-    let misplaced = c .before .before .before .before .before .before .before .before .before .is-misplaced in
+    let args = c .before .before .before .before .before .before .before .before .before .before .before .args in
+    let found = c .before .before .before .before .before .before .before .before .before .locate in
     c .hand-out .ensures
-    ∙ rw (c .before .before .list-due .ensures, c .before .before .before .size-of .ensures, c .before .build .ensures)
-    (handed-list (args .script .now) (args .p) (args .settings) (args .address) (args .time) (c .before .before .before .before .before .before .before .if2 .left) (c .before .before .before .before .before .before .if3 .left) (found .result) (found .ensures .1)
-    (sym (c .before .before .before .before .before .is-over .ensures) ∙ c .before .before .before .before .if4 .left))
+    ∙ rw (c .before .list-due .ensures, c .before .before .size-of .ensures)
+    (handed-list (args .script .now) (args .p) (args .settings) (args .address) (args .time) (c .before .before .before .before .before .before .if2 .left) (c .before .before .before .before .before .if3 .left) (found .result) (found .ensures .1)
+    (sym (c .before .before .before .before .is-over .ensures) ∙ c .before .before .before .if4 .left))
     ∙ ap (λ (t : Turn). turnHanded t (args .p) (args .settings) (args .address) (args .time)) (found .ensures .0)
 
 pub hand-turn-spec : {M : Type 1} → statement M
@@ -121,6 +116,5 @@ hand-turn-spec =
     returns-4
     size-of-requires
     list-due-requires
-    build-requires
     hand-out-requires
     returns-5)
