@@ -18,3 +18,4 @@ pub mod LawsListed
 pub mod LawsCourse
 pub mod Course
 pub mod Calls
+pub mod FromC

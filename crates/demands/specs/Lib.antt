@@ -7,3 +7,4 @@ pub mod Transactions
 pub mod Tallies
 pub mod Clears
 pub mod Starred
+pub mod FromC

@@ -60,17 +60,23 @@ isAsked (refused r) = false
 never : {A : Type 0} (r : Refusal) (os : List Operation) → refused r ≡ asks os → A
 never r os e = absurd (false≢true (ap isAsked e))
 
-body-asks : (body : Option (List Operation)) (os : List Operation) → bodyOf body ≡ asks os → body ≡ some os
+body-asks : (body : Option (List Operation)) (os : List Operation) → bodyOf body ≡ asks os → (body ≡ some os) × (readTotal os ≤ most)
 unfolding bodyOf
 body-asks none os e = never Shape os e
-body-asks (some ps) os e = go (ltb most (readTotal ps)) e where
-  go : (large : Bool) → cond large (refused Size) (asks ps) ≡ asks os → some ps ≡ some os
-  go true q = never Size os q
-  go false q = ap (λ (x : Script). some (operationsOf x)) q
+body-asks (some ps) os e = go (ltb most (readTotal ps)) refl e where
+  go :
+      (large : Bool)
+      → ltb most (readTotal ps) ≡ large
+      → cond large (refused Size) (asks ps) ≡ asks os
+      → (some ps ≡ some os) × (readTotal os ≤ most)
+  go true l q = never Size os q
+  go false l q =
+      let same = ap operationsOf q in
+      (ap (λ (x : List Operation). some x) same, rw same at (ltb-false most (readTotal ps) l))
 
 module _ (address : ℕ) (s : List ℕ) (os : List Operation) where
   abbrev Facts : Type 0
-  Facts = (address ≤ 127) × (3 ≤ length s) × (length s ≤ 4099) × (recordsOf (drop 3 s) ≡ some os)
+  Facts = (address ≤ 127) × (3 ≤ length s) × (length s ≤ 4099) × (recordsOf (drop 3 s) ≡ some os) × (readTotal os ≤ most)
 
   pub accepted-facts : scriptOf address s ≡ asks os → Facts
   unfolding scriptOf
@@ -98,4 +104,5 @@ module _ (address : ℕ) (s : List ℕ) (os : List Operation) where
           let headed = ltb-false (length s) 3 eb in
           let small = ltb-false most (fieldOf s) ed in
           let whole = eqb-true (fieldOf s) (length s - 3) ef in
-          (known, headed, omega (arith, headed, small, whole), body-asks (recordsOf (drop 3 s)) os q)
+          let body = body-asks (recordsOf (drop 3 s)) os q in
+          (known, headed, omega (arith, headed, small, whole), body .0, body .1)

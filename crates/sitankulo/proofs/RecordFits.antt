@@ -1,8 +1,8 @@
--- Every number of a record that a call leaves fits its eight bytes, so that it is read back as it was; for completion, of a record whose
--- place is below the last number of 64 bits.
+-- Every number of a record that a call leaves fits its eight bytes, so that it is read back as it was.
 -- Assumes nothing.
 use Prim.Native.Nat.{ℕ, _<_}
 use native.Mathlib.Omega.{arith}
+use mathlib.Core.Path.{_≡_, refl}
 use mathlib.Core.Bool.{Bool, not}
 use mathlib.Core.List.{List}
 use lib.ListN.{length}
@@ -14,6 +14,7 @@ use Rattle.outcome.specs.declared.Outcome.the-variants.{Pending, Done, Failed}
 use Rattle.outcome.specs.declared.Snapshot.{Snapshot}
 use Rattle.outcome.specs.Outcomes.{classifyOf, receivedOf}
 use Rattle.script.specs.Scripts.{Script, asks, refused, readTotal, scriptOf}
+use Rattle.turns.specs.Steps.{Step}
 use Rattle.turns.specs.Plan.{builtOf}
 use Rattle.turns.specs.Turns.{Turn, turn, over, beyond, carries, receives, turnsOf, turnAt}
 use Rattle.transaction.specs.declared.Deadline.{Deadline}
@@ -28,6 +29,7 @@ use Rattle.transaction.specs.declared.Abandoned.{Abandoned}
 use Rattle.transaction.specs.declared.Begun.{Begun}
 use Rattle.transaction.specs.Deadlines.{timeOf, fixedOf, dueOf}
 use Rattle.transaction.specs.Calls.{acceptedBy, begunBy, beginOf, outOfTurn, handedBy, turnHanded, nextBy, nextOf, toldAs, landedBy, turnCompleted, completeBy, completeOf, abandonOf}
+use Rattle.transaction.proofs.FewLists.{place-below}
 use Rattle.sitankulo.specs.Records.{timeIn}
 use Rattle.sitankulo.proofs.LawsTests.{by-test}
 use Rattle.sitankulo.proofs.RecordReturns.{Fits}
@@ -94,31 +96,44 @@ module _ (p : Progress) (fits : Fits p) where
   abandon-fits s =
       by-test (λ (a : Abandoned). Fits (a .progress)) (not (p .outstanding)) _ _ (λ e. fits) (λ e. (fits .0, omega arith, fits .2))
 
-  module _ (below : p .place < 0xFFFFFFFFFFFFFFFF) where
-    landed-fits : (o : Outcome) → Fits (landedBy o p .progress)
-    landed-fits Pending = fits
-    landed-fits Done = (omega arith, omega arith, fits .2)
-    landed-fits (Failed error) = (fits .0, omega arith, fits .2)
+  -- a list that is completed is one of the script's, which has few
+  landed-fits : p .place < 8192 → (o : Outcome) → Fits (landedBy o p .progress)
+  landed-fits below Pending = fits
+  landed-fits below Done = (omega arith, omega arith, fits .2)
+  landed-fits below (Failed error) = (fits .0, omega arith, fits .2)
 
-    told-fits : (o : Outcome) (polled : Bool) (arrived : Outcome) → Fits (toldAs o polled arrived p .progress)
-    told-fits Pending polled arrived = fits
-    told-fits (Failed error) polled arrived = (fits .0, omega arith, fits .2)
-    told-fits Done polled arrived = landed-fits arrived
+  told-fits : p .place < 8192 → (o : Outcome) (polled : Bool) (arrived : Outcome) → Fits (toldAs o polled arrived p .progress)
+  told-fits below Pending polled arrived = fits
+  told-fits below (Failed error) polled arrived = (fits .0, omega arith, fits .2)
+  told-fits below Done polled arrived = landed-fits below arrived
 
-    turn-fits : (t : Turn) (total : ℕ) (s : Snapshot) (received room : ℕ) → Fits (turnCompleted t total p s received room .progress)
-    turn-fits beyond total s received room = fits
-    turn-fits over total s received room = by-test (λ (c : Completed). Fits (c .progress)) (p .outstanding) _ _ (λ e. fits) (λ e. fits)
-    turn-fits (turn t landing) total s received room =
-        by-test (λ (c : Completed). Fits (c .progress)) (not (p .outstanding)) _ _ (λ e. fits)
-        (λ e. by-test (λ (c : Completed). Fits (c .progress)) (ltb room total) _ _ (λ q. fits)
-        (λ q. told-fits (classifyOf s (p .polled) (p .due) .outcome) (classifyOf s (p .polled) (p .due) .polled) (receivedOf (receives t) received)))
+  turn-fits :
+      (t : Turn)
+      → ((step : Step) (landing : ℕ) → t ≡ turn step landing → p .place < 8192)
+      → (total : ℕ) (s : Snapshot) (received room : ℕ)
+      → Fits (turnCompleted t total p s received room .progress)
+  turn-fits beyond below total s received room = fits
+  turn-fits over below total s received room =
+      by-test (λ (c : Completed). Fits (c .progress)) (p .outstanding) _ _ (λ e. fits) (λ e. fits)
+  turn-fits (turn t landing) below total s received room =
+      by-test (λ (c : Completed). Fits (c .progress)) (not (p .outstanding)) _ _ (λ e. fits)
+      (λ e. by-test (λ (c : Completed). Fits (c .progress)) (ltb room total) _ _ (λ q. fits)
+      (λ q. told-fits (below t landing refl) (classifyOf s (p .polled) (p .due) .outcome) (classifyOf s (p .polled) (p .due) .polled)
+      (receivedOf (receives t) received)))
 
-    completed-fits : (k : Script) (s : Snapshot) (received room : ℕ) → Fits (completeBy k p s received room .progress)
-    completed-fits (refused r) s received room = fits
-    completed-fits (asks os) s received room = turn-fits (turnAt 0 (p .place) (turnsOf 31 os)) (readTotal os) s received room
+  completed-fits :
+      (address : ℕ) (script : List ℕ) (k : Script)
+      → scriptOf address script ≡ k
+      → (s : Snapshot) (received room : ℕ)
+      → Fits (completeBy k p s received room .progress)
+  completed-fits address script (refused r) e s received room = fits
+  completed-fits address script (asks os) e s received room =
+      turn-fits (turnAt 0 (p .place) (turnsOf 31 os)) (λ step landing found. place-below address script os (p .place) step landing e found)
+      (readTotal os) s received room
 
-    pub complete-fits :
-        (address : ℕ) (script : List ℕ) (s : Snapshot) (received buffer : List ℕ)
-        → Fits (completeOf p address script s received buffer .progress)
-    unfolding completeOf
-    complete-fits address script s received buffer = completed-fits (scriptOf address script) s (length received) (length buffer)
+  pub complete-fits :
+      (address : ℕ) (script : List ℕ) (s : Snapshot) (received buffer : List ℕ)
+      → Fits (completeOf p address script s received buffer .progress)
+  unfolding completeOf
+  complete-fits address script s received buffer =
+      completed-fits address script (scriptOf address script) refl s (length received) (length buffer)

@@ -8,3 +8,4 @@ pub mod LawsCompletion
 pub mod LawsScript
 pub mod LawsAbandoning
 pub mod LawsTurn
+pub mod FewLists
