@@ -1,36 +1,18 @@
--- Laws of a record in memory: what is stored one after another is stored at once.
+-- Laws of a record in memory: what is put into it, flags first, is all of it.
 -- Assumes nothing.
 use Prim.Native.Nat.{ℕ, _+_, _≤_}
-use native.Mathlib.Nat.{add-assoc}
 use native.Mathlib.Omega.{arith}
-use mathlib.Core.Path.{_≡_, refl, sym, ap, _∙_}
+use mathlib.Core.Path.{_≡_, refl, sym, _∙_}
 use mathlib.Core.Bool.{true, cond}
 use mathlib.Core.List.{List, [], _∷_, _++_, append-assoc, append-nil}
-use lib.ListN.{length, take, drop, set, length-append, length-drop, drop-of-length-le}
-use lib.Seq.{paste, take-paste, drop-paste, length-take-le, drop-drop, take-all}
+use lib.ListN.{length, take, drop, set, length-drop, drop-of-length-le}
+use lib.Seq.{paste, length-take-le, drop-drop}
 use lib.Dec.{leb}
 use borrow.Author.Tests.{le-leb, leb-true}
 use Rattle.transaction.specs.declared.Progress.{Progress}
 use Rattle.wire.specs.Numbers.{laid, timesBytes}
 use Rattle.sitankulo.proofs.LawsTests.{and-left}
 use Rattle.sitankulo.specs.Records.{timeIn, flagsOf, recordBytes, isRecord}
-
--- what is stored behind what was stored before
-pub paste-behind :
-    (d : List ℕ) (at : ℕ) (s t : List ℕ) (n m : ℕ)
-    → length s ≡ n
-    → length t ≡ m
-    → at + n + m ≤ length d
-    → paste (paste d at s n) (at + n) t m ≡ paste d at (s ++ t) (n + m)
-paste-behind d at s t n m hs ht h =
-    let whole : length (s ++ t) ≤ n + m = rw length-append (omega arith) in
-    rw (take-paste d at s n (omega arith) (omega arith), ← drop-drop m (at + n) (paste d at s n), drop-paste d at s n (omega arith) (omega arith))
-    (rw (drop-drop m (at + n) d, take-all n s (omega arith), take-all m t (omega arith), take-all (n + m) (s ++ t) whole)
-    (rw (append-assoc (take at d) s t, add-assoc at n m)))
-
-first-set : (d : List ℕ) (f : ℕ) → 1 ≤ length d → set d 0 f ≡ paste d 0 (f ∷ []) 1
-first-set [] f h = absurd (omega arith)
-first-set (x ∷ d) f h = refl
 
 -- what is put into a part, as the whole
 pub part-put :
@@ -55,11 +37,8 @@ pub encoded :
     → after ≡ paste (set d 0 flags) 1 (timesBytes (p .place ∷ due ∷ fixed ∷ [])) 24
     → after ≡ paste d 0 (recordBytes p) 25
 unfolding recordBytes laid
-encoded p d after flags due fixed long flags-are due-is fixed-is e =
-    rw (← flags-are, ← due-is, ← fixed-is)
-    (e
-    ∙ ap (λ (l : List ℕ). paste l 1 (timesBytes (p .place ∷ due ∷ fixed ∷ [])) 24) (first-set d flags (omega arith))
-    ∙ paste-behind d 0 (flags ∷ []) (timesBytes (p .place ∷ due ∷ fixed ∷ [])) 1 24 refl refl (omega arith))
+encoded p [] after flags due fixed long flags-are due-is fixed-is e = absurd (omega arith)
+encoded p (x ∷ d) after flags due fixed long flags-are due-is fixed-is e = rw (← flags-are, ← due-is, ← fixed-is) e
 
 -- a record is long enough to be written again
 pub record-long : (state : List ℕ) → isRecord state ≡ true → 25 ≤ length state
