@@ -1,7 +1,7 @@
 // The record of a transaction in memory: flags, a place and two times, 25 bytes.
 ghost use mathlib.Core.Path.{_≡_};
 ghost use mathlib.Core.Bool.{true, _&&_};
-ghost use Prim.Native.Nat.{_+_, _≤_};
+ghost use Prim.Native.Nat.{_≤_};
 ghost use lib.ListN.{length};
 ghost use lib.Seq.{paste};
 ghost use Rattle.outcome.specs.declared.Due.the-variants.{Never};

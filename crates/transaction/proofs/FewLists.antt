@@ -1,21 +1,24 @@
 -- A script that is accepted has few lists, so that their number fits wherever it is kept.
 -- Assumes nothing.
 use Prim.Native.Nat.{ℕ, zero, suc, _+_, _-_, _≤_, _<_}
+use native.Mathlib.Nat.{div-le-self}
 use native.Mathlib.Omega.{arith}
-use mathlib.Core.Path.{_≡_, refl, sym, ap, _∙_}
+use mathlib.Core.Path.{_≡_, ap}
 use mathlib.Core.Bool.{Bool, true, false, cond, false≢true}
-use mathlib.Core.List.{List, [], _∷_, _++_}
+use mathlib.Core.List.{List, [], _∷_}
 use mathlib.Core.Option.{Option, none, some, Option·map}
 use lib.ListN.{length, take, drop, length-append, length-drop}
-use lib.Dec.{leb, eqb}
+use lib.Dec.{eqb}
 use Rattle.bus.specs.Events.{toSensor, fromSensor}
 use Rattle.bus.specs.Operations.{Operation, write, read, kept}
-use Rattle.chunks.specs.Pieces.{pieceOf, piecesBy, pieces}
-use Rattle.script.specs.Records.{bigEndian, operationsFrom, recordsOf}
+use Rattle.chunks.specs.Pieces.{pieces, countOf}
+use Rattle.chunks.proofs.Pieces.{pieces-count}
+use Rattle.script.specs.Records.{bigEndian, operationsFrom}
 use Rattle.script.specs.Scripts.{asks, readTotal, scriptOf}
 use Rattle.script.proofs.LawsAccepted.{accepted-facts}
-use Rattle.turns.specs.Steps.{Step, Before, nothing, after, writeSteps, readSteps, stepsFrom}
+use Rattle.turns.specs.Steps.{Step, Before, nothing, after, stepsFrom}
 use Rattle.turns.specs.Turns.{Turn, turn, over, beyond, listless, withList, turnsOf, turnAt}
+use Rattle.turns.proofs.LawsTurns.{write-count, read-count}
 
 -- a byte has at most one piece of its own, and an operation one more
 unfoldable weight : List Operation → ℕ
@@ -23,35 +26,17 @@ weight [] = 0
 weight (write bytes ∷ os) = suc (length bytes + weight os)
 weight (read n ∷ os) = suc (n + weight os)
 
-few-pieces-by : (c m r : ℕ) → length (piecesBy c m r) ≤ m
-unfolding piecesBy
-few-pieces-by c zero r = omega arith
-few-pieces-by c (suc m) r = go (leb r c) (few-pieces-by c m (r - pieceOf c r)) where
-  go : (t : Bool) → length (piecesBy c m (r - pieceOf c r)) ≤ m → suc (length (cond t [] (piecesBy c m (r - pieceOf c r)))) ≤ suc m
-  go true h = omega arith
-  go false h = omega (arith, h)
+few-pieces : (n : ℕ) → length (pieces 31 n) ≤ suc n
+unfolding countOf
+few-pieces n = rw (pieces-count 31 (omega arith) n) (omega (arith, div-le-self (n - 1) 31))
 
-few-pieces : (c n : ℕ) → length (pieces c n) ≤ suc n
-unfolding pieces
-few-pieces c n = few-pieces-by c (suc n) n
-
-write-count : (ns bytes : List ℕ) (start stop : Bool) → length (writeSteps ns bytes start stop) ≡ length ns
-unfolding writeSteps
-write-count [] bytes start stop = refl
-write-count (n ∷ ns) bytes start stop = ap suc (write-count ns (drop n bytes) false stop)
-
-read-count : (ns : List ℕ) (start stop continues : Bool) → length (readSteps ns start stop continues) ≡ length ns
-unfolding readSteps
-read-count [] start stop continues = refl
-read-count (n ∷ ns) start stop continues = ap suc (read-count ns false stop continues)
-
-few-steps : (c : ℕ) (before : Before) (os : List Operation) → length (stepsFrom c before os) ≤ weight os
+few-steps : (before : Before) (os : List Operation) → length (stepsFrom 31 before os) ≤ weight os
 unfolding stepsFrom weight
-few-steps c before [] = omega arith
-few-steps c before (write bytes ∷ os) =
-    rw (length-append, write-count) (omega (arith, few-pieces c (length bytes), few-steps c (after toSensor) os))
-few-steps c before (read n ∷ os) =
-    rw (length-append, read-count) (omega (arith, few-pieces c n, few-steps c (after fromSensor) os))
+few-steps before [] = omega arith
+few-steps before (write bytes ∷ os) =
+    rw (length-append, write-count) (omega (arith, few-pieces (length bytes), few-steps (after toSensor) os))
+few-steps before (read n ∷ os) =
+    rw (length-append, read-count) (omega (arith, few-pieces n, few-steps (after fromSensor) os))
 
 few-with-list : (ss : List Step) → length (withList ss) ≤ length ss
 unfolding withList
@@ -122,7 +107,7 @@ unfolding turnsOf
 few-lists address script os e =
     let facts = accepted-facts address script os e in
     let whole : weight os + 0 ≤ readTotal os + length (drop 3 script) = rw (facts .3) at (script-weight 0 (drop 3 script)) in
-    omega (arith, facts .2, facts .4, whole, length-drop 3 script, kept-weight os, few-steps 31 nothing (kept os), few-with-list (stepsFrom 31 nothing (kept os)))
+    omega (arith, facts .2, facts .4, whole, length-drop 3 script, kept-weight os, few-steps nothing (kept os), few-with-list (stepsFrom 31 nothing (kept os)))
 
 -- a place at which there is a list is below it
 abbrev isList : Turn → Bool
