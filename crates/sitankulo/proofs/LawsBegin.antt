@@ -11,6 +11,14 @@ use Rattle.transaction.specs.declared.Begun.{Begun}
 use Rattle.transaction.specs.Numbers.{beginNumber}
 use Rattle.sitankulo.specs.Transactions.{goesAhead, renewed, roomless, beginAnswer}
 
+-- a record without room is never written
+pub roomless-stays : (m : ℕ) → goesAhead (roomless m) ≡ false
+roomless-stays m = go (goesAhead m) refl (eqb m 13) where
+  go : (t : Bool) → goesAhead m ≡ t → (u : Bool) → goesAhead (cond (t || u) 7 m) ≡ false
+  go true q u = refl
+  go false q true = refl
+  go false q false = q
+
 module _ (kind : ℕ) (state : List ℕ) (b made : Begun) (e : made ≡ b) (n : ℕ) (told : n ≡ beginNumber (made .answer)) where
   abbrev Begins : ℕ → List ℕ → Type 0
   Begins r after = (r ≡ beginAnswer kind (length state) b) × (after ≡ cond (goesAhead r) (renewed state (b .progress)) state)
@@ -19,14 +27,6 @@ module _ (kind : ℕ) (state : List ℕ) (b made : Begun) (e : made ≡ b) (n : 
   number = told ∙ ap (λ (x : Begun). beginNumber (x .answer)) e
 
   module _ (known : kind ≤ 2) where
-    -- a record without room is never written
-    roomless-stays : (m : ℕ) → goesAhead (roomless m) ≡ false
-    roomless-stays m = go (goesAhead m) refl (eqb m 13) where
-      go : (t : Bool) → goesAhead m ≡ t → (u : Bool) → goesAhead (cond (t || u) 7 m) ≡ false
-      go true q u = refl
-      go false q true = refl
-      go false q false = q
-
     pub begin-roomless : length state < 25 → (r : ℕ) → r ≡ roomless n → Begins r state
     unfolding beginAnswer
     begin-roomless short r q =
