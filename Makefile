@@ -1,4 +1,4 @@
-.PHONY: test run rules fmt clean lib install ctest soak fuzz bench
+.PHONY: test run statements rules edits fmt clean lib install ctest soak fuzz bench
 
 # The gate: everything that must hold.
 test:
@@ -7,32 +7,45 @@ test:
 # Shows what a script comes to, the white-reference fetch or another: make run SCRIPT=examples/settings.txt
 SCRIPT = examples/white_reference.txt
 
-run:
-	@echo 'Proving and building the program plan; the first time this takes some minutes.' >&2
-	@mkdir -p target
-	@rt check plan >target/run.log 2>&1 || { cat target/run.log; exit 1; }
-	@tools/run plan <$(SCRIPT)
+run: target/unproved/plan
+	@tools/run $< <$(SCRIPT)
 
-# The rules alone. Some read what the last `rt check` or `rt ci` reported.
+# A program in seconds, without its proof.
+target/unproved/%: crates.txt $(shell find crates -name '*.rt')
+	@echo '$* is not proved here; make test proves it.' >&2
+	@mkdir -p target/unproved
+	@python3 tools/unproved.py $*
+
+# Writes down what is stated, a line for each public call, promised theorem and definition: docs/STATEMENTS.txt.
+statements:
+	@python3 tools/statements.py --write
+
+# The rules alone, and the tests of the tools. Some rules read what the last `rt check` or `rt ci` reported.
 rules:
-	python3 tools/test_rules.py
+	python3 -m unittest discover -s tools/tests
 	python3 tools/rules.py
+
+# The edits that must be refused, all or some: make edits ONLY=sitankulo, make edits ONLY='list/end_always list/stop_first'
+ONLY =
+
+edits:
+	@python3 tools/edits.py $(ONLY)
 
 # The library for C on the machine at hand.
 LIBRARY = target/library/libsitankulo.a
-LIBRARY_SOURCES = crates.txt include/sitankulo.h tools/library tools/library_clang $(shell find crates -name '*.rt' -o -name '*.antt')
+LIBRARY_SOURCES = crates.txt include/sitankulo.h tools/library.py tools/library_clang $(shell find crates -name '*.rt' -o -name '*.antt')
 
 lib: $(LIBRARY)
 
 $(LIBRARY): $(LIBRARY_SOURCES)
-	@echo 'Proving and building the library; this takes some minutes.' >&2
-	@tools/library
+	@echo 'Proving and building the library; where it is not proved yet, this takes some minutes.' >&2
+	@python3 tools/library.py
 
 # Installs library, header and pkg-config file: make install PREFIX=/opt/printer
 PREFIX = /usr/local
 
 install:
-	@tools/library install $(PREFIX)
+	@python3 tools/library.py install $(PREFIX)
 
 # Tests of the C calls: plainly, with sanitizers, under valgrind; the header by itself; the example.
 ctest: lib

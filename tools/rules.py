@@ -11,199 +11,128 @@ import subprocess
 import sys
 from pathlib import Path
 
-# Comments and quoted text, in which a brace or a keyword means nothing.
-CODE_SKIPPED = r'//[^\n]*|/\*.*?\*/|"(?:\\.|[^"\\])*"|b\'(?:\\.|[^\'\\])\''
-ANTT_SKIPPED = r'(?<!\S)--[^\n]*|\{-.*?-\}|"(?:\\.|[^"\\])*"'
+import contracts
+import edits
+import sources
+import statements
+from sources import read
 
-CODE_BRACES = re.compile(CODE_SKIPPED + r'|[{}]', re.S)
-ANTT_BRACES = re.compile(ANTT_SKIPPED + r'|[{}]', re.S)
-ITEM = re.compile(
-    CODE_SKIPPED
-    + r'|\bghost\s+use\b[^;]*;'
-    + r'|(?P<pub>\bpub\s+)?(?:\bextern\s+"C"\s+)?\bfn\s+(?P<fn>\w+)'
-    + r'|\bimpl\b\s*(?:<[^>]*>\s*)?(?P<impl>\w+)[^{]*\{'
-    + r'|\bmod\s+(?P<mod>\w+)\s*\{'
-    + r'|(?P<brace>[{}])',
-    re.S)
-CLAUSE_OR_BODY = re.compile(
-    CODE_SKIPPED + r'|\b(?P<clause>ghost|requires|ensures)\b\s*\w*\s*\{|(?P<body>\{)', re.S)
-DECLARATION = re.compile(
-    r'^(?P<indent> *)(?P<marks>(?:(?:unfoldable|abbrev|axiom|pub)\s+)*)(?P<word>\S+)', re.M)
-CALL_ROW = re.compile(r'\s*\|\s*(`[^`\s]*::[^`\s]*`)\s*\|')
+CALL_ROW = re.compile(r'\s*\|\s*(`[^`\s]*::[^`\s]*`)\s*\|([^|]*)\|')
 THEOREM_ROW = re.compile(r'\s*\|\s*(`[^`\s]+\.antt`)\s+(`[^`\s]+`)\s*\|')
-
-NO_THEOREMS = {'mod', 'use', 'module', 'data', 'record', 'ruleset'}
 PROMISES = Path('docs/PROMISES.md')
 
 
-# ---- reading the repository
-
-def read(file):
-    return file.read_text(encoding='utf-8') if file.is_file() else ''
+def place(root, file, line):
+    return f'{file.relative_to(root)}:{line}'
 
 
-def line_at(text, position):
-    return text.count('\n', 0, position) + 1
-
-
-def crate_folders(root):
-    return sorted(folder for folder in root.glob('crates/*') if folder.is_dir())
-
-
-def listed_crates(root):
-    """Yields (line, name, the line above) of each crate in crates.txt."""
-    above = ''
-    for number, line in enumerate(read(root / 'crates.txt').splitlines(), 1):
-        name = line.split('#')[0].split(':')[0].strip()
-        if name:
-            yield number, name, above
-        above = line
-
-
-# ---- reading Rattle
-
-def closing(text, opening, braces):
-    """The position behind the brace that closes the one at `opening`."""
-    depth = 0
-    for found in braces.finditer(text, opening):
-        depth += {'{': 1, '}': -1}.get(found.group(), 0)
-        if depth == 0 and found.group() == '}':
-            return found.end()
-    return len(text)
-
-
-def clauses_and_end(text, position):
-    """The kinds of the clauses behind a function's name, and where its body ends."""
-    clauses = []
-    while True:
-        found = CLAUSE_OR_BODY.search(text, position)
-        if not found:
-            return clauses, len(text)
-        if found['body']:
-            return clauses, closing(text, found.start(), CODE_BRACES)
-        position = found.end()
-        if found['clause']:
-            clauses.append(found['clause'])
-            position = closing(text, found.end() - 1, ANTT_BRACES)
-
-
-def public_functions(text):
-    """Yields (line, path, clauses) of each `pub fn`; the path has the modules and types around it."""
-    around, position = [], 0
-    while True:
-        found = ITEM.search(text, position)
-        if not found:
-            return
-        position = found.end()
-        if found['fn']:
-            clauses, position = clauses_and_end(text, position)
-            if found['pub']:
-                yield line_at(text, found.start()), around + [found['fn']], clauses
-        elif found['impl'] or found['mod']:
-            around.append(found['impl'] or found['mod'])
-        elif found['brace'] == '{':
-            position = closing(text, found.start(), CODE_BRACES)
-        elif found['brace'] == '}' and around:
-            around.pop()
-
-
-def public_calls(root):
-    """Yields (place, name, clauses) of each `pub fn` of the repository, as `crate::Type::name`."""
-    for crate in crate_folders(root):
-        for file in sorted(crate.glob('src/**/*.rt')):
-            module = file.relative_to(crate / 'src').with_suffix('').parts
-            module = () if module in (('lib',), ('main',)) else module
-            for line, path, clauses in public_functions(read(file)):
-                name = '::'.join([crate.name, *module, *path])
-                yield f'{file.relative_to(root)}:{line}', name, clauses
-
-
-# ---- reading antt
-
-def blank(skipped):
-    return re.sub(r'[^\n]', ' ', skipped.group())
-
-
-def without_comments(text):
-    return re.sub(ANTT_SKIPPED, blank, text, flags=re.S)
-
-
-def public_declarations(text):
-    """Yields (line, marks, word) of each `pub` declaration; word is its name, or `data`, `mod` and so on."""
-    text = without_comments(text)
-    blocks = []  # the data, record and mutual blocks around a line
-    for found in DECLARATION.finditer(text):
-        indent, marks, word = len(found['indent']), found['marks'].split(), found['word']
-        blocks = [block for block in blocks if block[0] < indent]
-        # a field of a record is no declaration of its own
-        if 'pub' in marks and not any(kind in ('data', 'record') for _, kind, _ in blocks):
-            # the marks of a mutual block hold for its members
-            inherited = [mark for _, _, above in blocks for mark in above]
-            yield line_at(text, found.start()), inherited + marks, word
-        if word in ('data', 'record', 'mutual'):
-            blocks.append((indent, word, marks))
-
-
-def theorems(text):
-    """Yields (line, name) of each declaration whose only mark is `pub`."""
-    for line, marks, word in public_declarations(text):
-        if marks == ['pub'] and word not in NO_THEOREMS:
-            yield line, word
-
-
-# ---- the rules
+# ---- contracts
 
 def every_pub_fn_has_ensures(root):
     """A `pub fn` promises something: it has an `ensures`."""
-    return [f'{place}: `{name}` has no ensures'
-            for place, name, clauses in public_calls(root) if 'ensures' not in clauses]
+    return [f'{place(root, file, function.line)}: `{name}` has no ensures'
+            for file, name, function in sources.public_calls(root) if 'ensures' not in dict(function.clauses)]
 
 
 def no_requires_at_the_boundary(root):
     """A `pub fn` takes whatever it is handed: it has no `requires`."""
-    return [f'{place}: `{name}` has a requires'
-            for place, name, clauses in public_calls(root) if 'requires' in clauses]
+    return [f'{place(root, file, function.line)}: `{name}` has a requires'
+            for file, name, function in sources.public_calls(root) if 'requires' in dict(function.clauses)]
 
+
+def contracts_are_equations(root):
+    """A contract settles what is returned and what each lent memory holds at exit: an equation each, directly or through an abbreviation
+    or a record of `specs/`, and none that is said by itself."""
+    declared = statements.Reader(root).declared
+    return [f'{place(root, file, function.line)}: `{name}`: {weakness}'
+            for file, name, function in sources.public_calls(root)
+            for weakness in contracts.weaknesses(function, str(file.relative_to(root / 'crates')), declared)]
+
+
+def contracts_as_promised(root):
+    """A contract speaks of the definitions that its row in docs/PROMISES.md names, which stand in the file named there."""
+    reader, rows = statements.Reader(root), promised_calls(root)
+    problems = []
+    for file, name, function in sources.public_calls(root):
+        if f'`{name}`' not in rows:
+            continue
+        path = str(file.relative_to(root / 'crates'))
+        equal, _ = contracts.equations(function, path, reader.declared)
+        spoken = sources.tokens(' '.join([clause for _, clause in function.clauses] + list(equal.values())))
+        row, cell = rows[f'`{name}`']
+        definitions = re.findall(r'`([^`]+)`', cell)
+        named = (re.findall(r'\S+\.(?:antt|rt)\b', cell) or [''])[-1]
+        own, brought = reader.declared(named)
+        if not definitions or not (root / 'crates' / named).is_file():
+            problems.append(f'{row}: `{name}` names no definition with its file')
+        problems += [f'{place(root, file, function.line)}: `{name}` does not speak of `{each}`, as {PROMISES} has it'
+                     for each in definitions if each not in spoken]
+        problems += [f'{row}: `{each}` is not to be found in {named}' for each in definitions if each not in {**own, **brought}]
+    return problems
+
+
+# ---- what is promised
 
 def what_exists(root):
     """The place of each public call and theorem, by the first cell of its row in docs/PROMISES.md."""
-    places = {f'`{name}`': place for place, name, _ in public_calls(root)}
-    for file in sorted(root.glob('crates/*/proofs/*.antt')):
-        if not file.name.startswith('Laws'):
-            for line, name in theorems(read(file)):
-                places[f'`{file.relative_to(root / "crates")}` `{name}`'] = f'{file.relative_to(root)}:{line}'
+    places = {f'`{name}`': place(root, file, function.line) for file, name, function in sources.public_calls(root)}
+    for file in sources.theorem_files(root):
+        for each in sources.declarations(read(file)):
+            if each.is_theorem():
+                places[f'`{file.relative_to(root / "crates")}` `{each.name}`'] = place(root, file, each.line)
     return places
+
+
+def promises(root, pattern):
+    """Yields (place, the cells of a row) of docs/PROMISES.md."""
+    for number, line in enumerate(read(root / PROMISES).splitlines(), 1):
+        row = pattern.match(line)
+        if row:
+            yield f'{PROMISES}:{number}', row.groups()
+
+
+def promised_calls(root):
+    """The place and the second cell of each call's row."""
+    return {name: (where, cell) for where, (name, cell) in promises(root, CALL_ROW)}
 
 
 def what_is_promised(root):
-    """The place of each row of docs/PROMISES.md that names a public call or a theorem."""
-    places = {}
-    for number, line in enumerate(read(root / PROMISES).splitlines(), 1):
-        row = CALL_ROW.match(line) or THEOREM_ROW.match(line)
-        if row:
-            places[' '.join(row.groups())] = f'{PROMISES}:{number}'
-    return places
+    """The place of each row that names a public call or a theorem."""
+    return {**{name: where for name, (where, _) in promised_calls(root).items()},
+            **{' '.join(cells): where for where, cells in promises(root, THEOREM_ROW)}}
 
 
 def promises_complete(root):
     """docs/PROMISES.md names every public call and every theorem, and nothing else."""
     exists, promised = what_exists(root), what_is_promised(root)
-    return ([f'{place}: {name} is not in {PROMISES}' for name, place in exists.items() if name not in promised]
-            + [f'{place}: {name} is no public call or theorem' for name, place in promised.items() if name not in exists])
+    return ([f'{where}: {name} is not in {PROMISES}' for name, where in exists.items() if name not in promised]
+            + [f'{where}: {name} is no public call or theorem' for name, where in promised.items() if name not in exists])
+
+
+def statements_pinned(root):
+    """docs/STATEMENTS.txt is what `make statements` writes: no statement changes without a line of a diff that says so."""
+    pinned, now = (set(text.splitlines()) for text in (read(root / statements.PINNED), statements.written(root)))
+    if read(root / statements.PINNED) == statements.written(root):
+        return []
+    return ([f'{statements.PINNED}:1: pinned and no longer so: {line}' for line in sorted(pinned - now)]
+            + [f'{statements.PINNED}:1: so and not pinned: {line}' for line in sorted(now - pinned)]
+            or [f'{statements.PINNED}:1: not as `make statements` writes it'])
 
 
 def specs_hold_definitions_only(root):
     """A theorem stands in proofs/: what is `pub` in specs/ is a type, an `abbrev` or `unfoldable`."""
-    return [f'{file.relative_to(root)}:{line}: `{name}` is neither abbrev nor unfoldable: a theorem belongs in proofs/'
-            for file in sorted(root.glob('crates/*/specs/**/*.antt'))
-            for line, name in theorems(read(file))]
+    return [f'{place(root, file, each.line)}: `{each.name}` is neither abbrev nor unfoldable: a theorem belongs in proofs/'
+            for file in sources.definition_files(root)
+            for each in sources.declarations(read(file)) if each.is_theorem()]
 
+
+# ---- nothing assumed
 
 def declared_axioms(root):
     for file in sorted(root.glob('crates/**/*.antt')):
-        for number, line in enumerate(without_comments(read(file)).splitlines(), 1):
+        for number, line in enumerate(sources.without_comments(read(file)).splitlines(), 1):
             if line.split()[:1] == ['axiom']:
-                yield f'{file.relative_to(root)}:{number}: an axiom: {line.strip()}'
+                yield f'{place(root, file, number)}: an axiom: {line.strip()}'
 
 
 def report_of(root, name):
@@ -237,7 +166,7 @@ def assumed(line, is_library):
 def no_axioms(root):
     """Nothing is assumed: no axiom, no C function, and no library over one; a program may call the kit's."""
     problems = list(declared_axioms(root))
-    for _, name, _ in listed_crates(root):
+    for _, name, _ in sources.listed_crates(root):
         report = report_of(root, name)
         if report is None:
             problems.append(f'target/log/{name}.out:1: no report of a proof of {name}: run rt check first')
@@ -246,9 +175,28 @@ def no_axioms(root):
         for number, line in enumerate(read(report).splitlines(), 1):
             what = assumed(line, is_library)
             if what:
-                problems.append(f'{report.relative_to(root)}:{number}: {name}: {what}')
+                problems.append(f'{place(root, report, number)}: {name}: {what}')
     return problems
 
+
+# ---- edits that must be refused
+
+def edits_name_their_facts(root):
+    """An edit that must be refused names the fact at which it has to be."""
+    return [f'crates/{crate.name}/must-fail:1: {edit.name} names no fact'
+            for crate in sources.crate_folders(root)
+            for edit in edits.edits_of(root, crate.name) if len(edit.fact.split()) != 2]
+
+
+def exported_calls_are_attacked(root):
+    """Each call for C has an edit that breaks a fact of its own proof."""
+    attacked = {part for crate in sources.crate_folders(root) for edit in edits.edits_of(root, crate.name) for part in edit.fact.split('/')}
+    return [f'{place(root, file, function.line)}: no edit breaks a fact of `{name}`'
+            for file, name, function in sources.public_calls(root)
+            if 'extern "C"' in function.text and function.path[-1] not in attacked]
+
+
+# ---- layout
 
 def laid_out(root):
     """Every file is in the layout of `rt fmt`."""
@@ -265,9 +213,9 @@ def laid_out(root):
 
 def crates_listed(root):
     """Every folder in crates/ is in crates.txt, under a comment that says what the crate is for."""
-    listed = {name: (line, above) for line, name, above in listed_crates(root)}
+    listed = {name: (line, above) for line, name, above in sources.listed_crates(root)}
     problems = []
-    for crate in crate_folders(root):
+    for crate in sources.crate_folders(root):
         line, above = listed.get(crate.name, (None, ''))
         if line is None:
             problems.append(f'crates/{crate.name}:1: not listed in crates.txt')
@@ -276,8 +224,9 @@ def crates_listed(root):
     return problems
 
 
-RULES = [every_pub_fn_has_ensures, no_requires_at_the_boundary, promises_complete,
-         specs_hold_definitions_only, no_axioms, laid_out, crates_listed]
+RULES = [every_pub_fn_has_ensures, no_requires_at_the_boundary, contracts_are_equations, contracts_as_promised, promises_complete,
+         statements_pinned, specs_hold_definitions_only, no_axioms, edits_name_their_facts, exported_calls_are_attacked, laid_out,
+         crates_listed]
 
 
 def main(arguments):

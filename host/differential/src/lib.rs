@@ -20,7 +20,7 @@ pub use fixed::fixed_list;
 pub use leaves::{Leaf, Observed, numbered};
 pub use lists::{Kind, ListQuestion, PARTS};
 pub use program::{committed, run};
-pub use question::{Question, disagreements};
+pub use question::{Question, disagreements, note_compared};
 pub use random::Random;
 pub use scripts::{Starts, operations, read_total, with_body, written};
 pub use told::Told;

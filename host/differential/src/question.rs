@@ -18,6 +18,11 @@ pub fn hex_line(numbers: &[u64]) -> String {
     words.join(" ")
 }
 
+/// Says how many answers were compared, for the gate to count.
+pub fn note_compared(program: &str, answers: usize) {
+    println!("compared {answers} answers of {program}");
+}
+
 /// Asks both sides, and lists the first questions to which the answers differ.
 pub fn disagreements(program: &str, questions: &[impl Question]) -> Vec<String> {
     let asked: String = questions
@@ -31,6 +36,7 @@ pub fn disagreements(program: &str, questions: &[impl Question]) -> Vec<String> 
         questions.len(),
         "an answer for each question"
     );
+    note_compared(program, answers.len());
     questions
         .iter()
         .zip(answers)

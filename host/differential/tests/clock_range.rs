@@ -2,7 +2,7 @@
 
 use std::panic::catch_unwind;
 
-use differential::{Question, Transaction, run};
+use differential::{Question, Transaction, note_compared, run};
 use oracle::{Op, Timeout};
 
 /// The last duration at which a list of so many bytes, handed out at this time, is still due in range.
@@ -54,4 +54,5 @@ fn deadlines_out_of_range_are_refused_where_the_rust_traps() {
     }
     let trapped = rust.iter().filter(|answer| answer.is_none()).count();
     assert_eq!((questions.len(), trapped), (6 * 6 * 3 * 3, 180));
+    note_compared("drive", questions.len());
 }

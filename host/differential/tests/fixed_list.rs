@@ -1,6 +1,6 @@
 //! The lists that the programs answer without Rust are the Rust original's.
 
-use differential::{committed, fixed_list};
+use differential::{committed, fixed_list, note_compared};
 
 fn assert_committed(program: &str, length: usize) {
     let list = fixed_list(program);
@@ -12,6 +12,7 @@ fn assert_committed(program: &str, length: usize) {
         .collect();
     assert_eq!(committed(program, "stdin"), questions);
     assert_eq!(committed(program, "stdout"), answers);
+    note_compared(program, list.len());
 }
 
 #[test]

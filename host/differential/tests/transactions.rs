@@ -2,7 +2,9 @@
 
 use std::collections::BTreeMap;
 
-use differential::{Moment, Odd, Question, Random, Short, Transaction, disagreements, run};
+use differential::{
+    Moment, Odd, Question, Random, Short, Transaction, disagreements, note_compared, run,
+};
 use oracle::{Op, Timeout};
 
 fn assert_agreement(questions: &[Transaction]) {
@@ -239,4 +241,5 @@ fn transactions_agree_in_full() {
     for (question, answer) in questions.iter().zip(answered.lines()) {
         assert_eq!(question.in_full(), answer, "{question:?}");
     }
+    note_compared("drive", questions.len());
 }
