@@ -148,7 +148,7 @@ class Bench:
             apply(edit, copy)
         except BadEdit as bad:
             return False, f'{edit.name}: BAD EDIT: {bad}'
-        shutil.copytree(self.folder / edit.crate / 'kept', copy / 'kept')
+        kit.link_tree(self.folder / edit.crate / 'kept', copy / 'kept')
         checked = self.check(edit.crate, copy, copy / 'kept')
         (copy / 'log').write_text(checked.stdout, encoding='utf-8')
         shutil.rmtree(copy / 'kept')

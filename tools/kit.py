@@ -2,6 +2,7 @@
 
 import os
 import platform
+import shutil
 import subprocess
 from pathlib import Path
 
@@ -72,6 +73,11 @@ def incremental_name(scratch):
     if len(kept) != 1:
         raise RuntimeError(f'the checker kept nothing of an empty crate:\n{said.stdout}')
     return kept[0]
+
+
+def link_tree(there, folder):
+    """A copy of a folder by hard links: the checker puts a new file where it keeps another module, and leaves the old one as it was."""
+    shutil.copytree(there, folder, copy_function=os.link)
 
 
 # ---- the toolchain with another clang

@@ -4,9 +4,10 @@ use Prim.Native.Nat.{ℕ, _+_, _/_, _%_, _≤_}
 use native.Mathlib.Omega.{arith}
 use mathlib.Core.Path.{_≡_, refl, sym, ap, _∙_}
 use mathlib.Core.Bool.{Bool, true, false, cond, true≢false}
+use mathlib.Core.List.{[], _∷_, map}
 use lib.Dec.{eqb}
 use borrow.Author.Tests.{eqb-true, eqb-false}
-use Rattle.command.specs.Word.{encodeOf, within, meaningOf, Plannable, doneOf}
+use Rattle.command.specs.Word.{encodeOf, within, meaningOf, Plannable, opcodeOf, doneOf}
 use Rattle.command.specs.declared.Command.{Command}
 use Rattle.command.specs.declared.Command.the-variants.{Start, Write, Read, ReadNack, Stop, End}
 use Rattle.command.specs.declared.Meaning.{Meaning}
@@ -82,3 +83,14 @@ done-malformed w e = go (meaningOf w) (encode-decode w) (eqb-true (w / 0x8000000
     go (Planned ReadNack) r done q = absurd (omega arith)
     go (Planned Stop) r done q = absurd (omega arith)
     go (Planned End) r done q = absurd (omega arith)
+
+-- "the command check reads the opcode from bits 11 to 13", and from no other: START, WRITE, STOP, READ, END, each done or with other bits
+-- set; the bits above and below
+pub opcodes-read :
+    map opcodeOf (0x3000 ∷ 0x80000901 ∷ 0x1000 ∷ 0x1C01 ∷ 0xFFFFE7FF ∷ 0x4000 ∷ 0x07FF ∷ 0xFFFFFFFF ∷ [])
+    ≡ 6 ∷ 1 ∷ 2 ∷ 3 ∷ 4 ∷ 0 ∷ 0 ∷ 7 ∷ []
+opcodes-read = refl
+
+-- bit 31
+pub done-read : map doneOf (0x80000000 ∷ 0x7FFFFFFF ∷ 0xFFFFFFFF ∷ 0 ∷ []) ≡ true ∷ false ∷ true ∷ false ∷ []
+done-read = refl

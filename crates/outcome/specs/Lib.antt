@@ -2,3 +2,4 @@
 pub mod Outcomes
 pub mod Answers
 pub mod Packed
+pub mod Examples
