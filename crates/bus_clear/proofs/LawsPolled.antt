@@ -20,7 +20,7 @@ use Rattle.bus_clear.specs.declared.run.Polls.{Polls}
 use Rattle.bus_clear.specs.declared.run.Told.the-variants.{Ran}
 use Rattle.bus_clear.specs.Pins.{Change, changesOf, changeByte, changeBytes, listedWith}
 use Rattle.bus_clear.specs.Clear.{stepOf}
-use Rattle.bus_clear.specs.Runs.{Sample, tapeOf, Polled, exceeded, answered, pollAll, polledOver, countedOf, madeIn, releases, allChanges, roomFor, noRoom, reportOf, laid}
+use Rattle.bus_clear.specs.Runs.{Sample, tapeOf, Polled, exceeded, answered, pollAll, polledOver, countedOf, madeIn, releases, allChanges, runFits, runRoomless, runReport, laid}
 use Rattle.bus_clear.proofs.LawsLaying.{sets-append}
 
 pub tape-within : (clocks levels : List ℕ) → (length (tapeOf clocks levels) ≤ length clocks) × (length (tapeOf clocks levels) ≤ length levels)
@@ -85,12 +85,12 @@ module _ (t : Terms) (clocks levels memory : List ℕ) (c : BusClear) where
 
   pub too-little-room :
       length memory < length (polled .changes) + released
-      → (noRoom c ≡ reportOf t c polled (length memory)) × (memory ≡ laid t polled memory)
+      → (runRoomless c ≡ runReport t c polled (length memory)) × (memory ≡ laid t polled memory)
   too-little-room h =
       let no = lt-leb (length (allChanges t polled)) (length memory) (omega (arith, all-changes)) in (simp no, simp no)
 
   module _ (fits : length (polled .changes) + released ≤ length memory) where
-    yes : roomFor t polled (length memory) ≡ true
+    yes : runFits t polled (length memory) ≡ true
     yes = le-leb (length (allChanges t polled)) (length memory) (omega (arith, all-changes))
 
     pub reported :
@@ -99,7 +99,7 @@ module _ (t : Terms) (clocks levels memory : List ℕ) (c : BusClear) where
         → end ≡ length (polled .changes) + released
         → reset ≡ (t .pins && t .reset)
         → record { answer = Ran (p .ending); polls = p .polls; clear = p .clear; changes = end; reset = reset }
-        ≡ reportOf t c polled (length memory)
+        ≡ runReport t c polled (length memory)
     reported p end reset e f r = rw (e, f, r, ← all-changes, yes)
 
     pub released-last :

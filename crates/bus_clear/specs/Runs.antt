@@ -95,16 +95,16 @@ abbrev pub allChanges : Terms → Polled → List Change
 allChanges t p = p .changes ++ releases (t .pins)
 
 -- the lent memory has room for a byte each
-abbrev pub roomFor : Terms → Polled → ℕ → Bool
-roomFor t p room = leb (length (allChanges t p)) room
+abbrev pub runFits : Terms → Polled → ℕ → Bool
+runFits t p room = leb (length (allChanges t p)) room
 
-abbrev pub noRoom : BusClear → Report
-noRoom c = record { answer = NoRoom; polls = 0; clear = c; changes = 0; reset = false }
+abbrev pub runRoomless : BusClear → Report
+runRoomless c = record { answer = NoRoom; polls = 0; clear = c; changes = 0; reset = false }
 
 -- what is reported: 7, with nothing done, where there is too little room
-abbrev pub reportOf : Terms → BusClear → Polled → ℕ → Report
-reportOf t c p room =
-    cond (roomFor t p room)
+abbrev pub runReport : Terms → BusClear → Polled → ℕ → Report
+runReport t c p room =
+    cond (runFits t p room)
     (record {
       answer = Ran (p .ending);
       polls = p .polls;
@@ -112,8 +112,8 @@ reportOf t c p room =
       changes = length (allChanges t p);
       reset = t .pins && t .reset;
     })
-    (noRoom c)
+    (runRoomless c)
 
 -- lent memory at exit: the changes as bytes in front, "bytes past an answer stay"; untouched where there is too little room
 abbrev pub laid : Terms → Polled → List ℕ → List ℕ
-laid t p old = cond (roomFor t p (length old)) (sets old 0 (map changeByte (allChanges t p))) old
+laid t p old = cond (runFits t p (length old)) (sets old 0 (map changeByte (allChanges t p))) old

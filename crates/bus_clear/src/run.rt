@@ -5,7 +5,7 @@ ghost use mathlib.Core.Bool.{_&&_};
 ghost use lib.ListN.{length, getD};
 ghost use lib.Seq.{sets};
 ghost use Rattle.bus_clear.specs.Pins.{changesOf, changeBytes};
-ghost use Rattle.bus_clear.specs.Runs.{tapeOf, exceeded, polledOver, countedOf, madeBy, madeIn, noRoom, reportOf, Laid, laid};
+ghost use Rattle.bus_clear.specs.Runs.{tapeOf, exceeded, polledOver, countedOf, madeBy, madeIn, runRoomless, runReport, Laid, laid};
 use crate::Answer;
 use crate::BusClear;
 use crate::Pins;
@@ -228,7 +228,7 @@ fn asks_reset(t: Terms) -> bool
 }
 
 fn no_room(c: BusClear) -> Report
-    ensures { λ r. ⌜ r ≡ noRoom c ⌝ }
+    ensures { λ r. ⌜ r ≡ runRoomless c ⌝ }
 {
     Report {
         answer: Told::NoRoom,
@@ -241,7 +241,7 @@ fn no_room(c: BusClear) -> Report
 
 // Polls over the tape, and reports the whole run. Its pin changes are laid into the memory, a byte each.
 pub fn run(c: BusClear, t: Terms, clocks: &[u64], levels: &[u8], memory: &mut [u8]) -> Report
-    ensures { λ r. ⌜ r ≡ reportOf t c (polledOver t (now (clocks .entry)) (now (levels .entry)) c) (length (now (memory .entry))) ⌝ }
+    ensures { λ r. ⌜ r ≡ runReport t c (polledOver t (now (clocks .entry)) (now (levels .entry)) c) (length (now (memory .entry))) ⌝ }
     ensures { λ r. ⌜ now (memory .exit) ≡ laid t (polledOver t (now (clocks .entry)) (now (levels .entry)) c) (now (memory .entry)) ⌝ }
 {
     let p = poll_tape(c, t, clocks, levels);

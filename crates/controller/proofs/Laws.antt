@@ -13,48 +13,48 @@ use Rattle.command.specs.declared.Command.the-variants.{Start, Write}
 use Rattle.controller.specs.declared.Phase.{Phase}
 use Rattle.controller.specs.declared.Phase.the-variants.{Started}
 use Rattle.controller.specs.declared.Place.{Place}
-use Rattle.controller.specs.Rules.{mayStart, mayWrite, afterWrite, mayRead, halts, goesOn, finishes, receives, closes, turn}
+use Rattle.controller.specs.Rules.{mayStart, mayWrite, afterWrite, mayRead, halts, goesOn, finishes, readTurn, closes, effectOf}
 use Rattle.controller.specs.Places.{stateAt}
 
 module _ (f : ℕ) (fifo : List ℕ) (s : Place) where
-  pub start-barred : mayStart (s .phase) ≡ false → turn f Start (stateAt fifo s) ≡ halts
-  unfolding turn
+  pub start-barred : mayStart (s .phase) ≡ false → effectOf f Start (stateAt fifo s) ≡ halts
+  unfolding effectOf
   start-barred e = simp e
 
   pub start-goes :
       mayStart (s .phase) ≡ true
-      → turn f Start (stateAt fifo s) ≡ goesOn (stateAt fifo (record { phase = Started; at = s .at; received = s .received }))
-  unfolding turn
+      → effectOf f Start (stateAt fifo s) ≡ goesOn (stateAt fifo (record { phase = Started; at = s .at; received = s .received }))
+  unfolding effectOf
   start-goes e = simp e
 
   module _ (n : ℕ) where
-    pub write-short : length fifo - s .at < n → turn f (Write n) (stateAt fifo s) ≡ halts
-    unfolding turn
+    pub write-short : length fifo - s .at < n → effectOf f (Write n) (stateAt fifo s) ≡ halts
+    unfolding effectOf
     write-short h = simp (length-drop, lt-leb n (length fifo - s .at) h)
 
     module _ (enough : n ≤ length fifo - s .at) where
-      pub write-barred : mayWrite n (getD fifo (s .at) 0) (s .phase) ≡ false → turn f (Write n) (stateAt fifo s) ≡ halts
-      unfolding turn
+      pub write-barred : mayWrite n (getD fifo (s .at) 0) (s .phase) ≡ false → effectOf f (Write n) (stateAt fifo s) ≡ halts
+      unfolding effectOf
       write-barred e = simp (length-drop, le-leb n (length fifo - s .at) enough, getD-drop, add-zero, e)
 
       pub write-goes :
           mayWrite n (getD fifo (s .at) 0) (s .phase) ≡ true
-          → turn f (Write n) (stateAt fifo s)
+          → effectOf f (Write n) (stateAt fifo s)
           ≡ goesOn (stateAt fifo (record { phase = afterWrite (getD fifo (s .at) 0) (s .phase); at = s .at + n; received = s .received }))
-      unfolding turn
+      unfolding effectOf
       write-goes e = simp (length-drop, le-leb n (length fifo - s .at) enough, getD-drop, add-zero, e, drop-drop)
 
     module _ (after : Phase) where
-      pub receive-barred : mayRead (s .phase) ≡ false → receives f n after (stateAt fifo s) ≡ halts
+      pub receive-barred : mayRead (s .phase) ≡ false → readTurn f n after (stateAt fifo s) ≡ halts
       receive-barred e = simp e
 
-      pub receive-full : mayRead (s .phase) ≡ true → f < s .received + n → receives f n after (stateAt fifo s) ≡ halts
+      pub receive-full : mayRead (s .phase) ≡ true → f < s .received + n → readTurn f n after (stateAt fifo s) ≡ halts
       receive-full e h = simp (e, lt-leb (s .received + n) f h)
 
       pub receive-goes :
           mayRead (s .phase) ≡ true
           → s .received + n ≤ f
-          → receives f n after (stateAt fifo s)
+          → readTurn f n after (stateAt fifo s)
           ≡ goesOn (stateAt fifo (record { phase = after; at = s .at; received = s .received + n }))
       receive-goes e h = simp (e, le-leb (s .received + n) f h)
 

@@ -19,10 +19,10 @@ use Rattle.controller.specs.declared.model.Answer.the-variants.{Ran}
 use Rattle.controller.specs.declared.model.Trace.{Trace}
 use Rattle.controller.specs.declared.model.Bench.{Bench}
 use Rattle.controller.specs.declared.model.Traced.{Traced}
-use Rattle.controller.specs.Rules.{State, Turn}
+use Rattle.controller.specs.Rules.{State, Effect}
 use Rattle.controller.specs.Places.{Inside}
 use Rattle.controller.specs.Model.{Sensor, Run, Commands, eventsOf}
-use Rattle.controller.specs.Traces.{Reported, noRoom, sentKind, gotKind, eventBytes, trafficBytes, receivedBytes, endingOf, leftOf, roomFor, laid}
+use Rattle.controller.specs.Traces.{Reported, traceRoomless, sentKind, gotKind, eventBytes, trafficBytes, receivedBytes, endingOf, leftOf, traceFits, laid}
 use Rattle.controller.specs.Tracing.{blankTrace, stored, heard, heardAll, traced, Within, Tells, ComesTo, Fits}
 
 -- what a trace holds once events are heard: their bytes, stored one after another
@@ -124,15 +124,15 @@ module _ {x : Traced} {r : Run} (told : Tells x r) where
 
   -- too little room in either output, and room in both
   module _ (received events : List ℕ) where
-    pub short-received : length received < x .trace .got → Reported r noRoom received received events events
+    pub short-received : length received < x .trace .got → Reported r traceRoomless received received events events
     short-received h =
-        let none : roomFor r (length received) (length events) ≡ false
+        let none : traceFits r (length received) (length events) ≡ false
         = rw (lt-leb (length (receivedBytes (eventsOf r))) (length received) (omega (arith, told-got))) in
         record { reported = rw none; receivedLaid = rw none; eventsLaid = rw none }
 
-    pub short-events : length events < x .trace .count * 2 → Reported r noRoom received received events events
+    pub short-events : length events < x .trace .count * 2 → Reported r traceRoomless received received events events
     short-events h =
-        let none : roomFor r (length received) (length events) ≡ false
+        let none : traceFits r (length received) (length events) ≡ false
         = rw (lt-leb (length (trafficBytes (eventsOf r))) (length events) (omega (arith, told-count, traffic-length (eventsOf r))))
         (and-false (leb (length (receivedBytes (eventsOf r))) (length received))) in
         record { reported = rw none; receivedLaid = rw none; eventsLaid = rw none }
@@ -145,7 +145,7 @@ module _ {x : Traced} {r : Run} (told : Tells x r) where
         events (laid true (take (x .trace .count * 2) (x .trace .events)) events)
     unfolding traced
     reports enough room =
-        let fits : roomFor r (length received) (length events) ≡ true
+        let fits : traceFits r (length received) (length events) ≡ true
         = rw (
           le-leb (length (receivedBytes (eventsOf r))) (length received) (omega (arith, told-got)),
           le-leb (length (trafficBytes (eventsOf r))) (length events) (omega (arith, told-count, traffic-length (eventsOf r))),

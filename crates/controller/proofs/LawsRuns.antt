@@ -1,4 +1,4 @@
--- Laws of a run against the sensor that acknowledges everything, for citing: a command that its turn allows changes nothing of what the
+-- Laws of a run against the sensor that acknowledges everything, for citing: a command that its effect allows changes nothing of what the
 -- rest of the list comes to.
 -- Assumes nothing.
 use Prim.Native.Nat.{ℕ, zero, suc, _+_, _≤_, _<_}
@@ -15,7 +15,7 @@ use Rattle.command.specs.declared.Meaning.the-variants.{Planned, Malformed}
 use Rattle.command.specs.Word.{meaningOf}
 use Rattle.controller.specs.declared.Phase.{Phase}
 use Rattle.controller.specs.declared.inspector.Verdict.the-variants.{Passes, Refused}
-use Rattle.controller.specs.Rules.{State, halts, goesOn, finishes, turn}
+use Rattle.controller.specs.Rules.{State, halts, goesOn, finishes, effectOf}
 use Rattle.controller.specs.Model.{Sensor, Run, done, emit, put, get, obey, runFrom, Commands, runList}
 use Rattle.controller.specs.Verdicts.{willing, verdictOf}
 
@@ -46,18 +46,18 @@ module _ (f : ℕ) (word : ℕ) (more : List ℕ) (s : State) where
   word-malformed e = simp e
 
   module _ (c : Command) (e : meaningOf word ≡ Planned c) where
-    pub word-halts : turn f c s ≡ halts → verdictOf (runFrom f (word ∷ more) s willing done) ≡ Refused
+    pub word-halts : effectOf f c s ≡ halts → verdictOf (runFrom f (word ∷ more) s willing done) ≡ Refused
     unfolding runFrom
     word-halts h = simp (e, h)
 
     pub word-goes :
         (t : State)
-        → turn f c s ≡ goesOn t
+        → effectOf f c s ≡ goesOn t
         → verdictOf (runFrom f (word ∷ more) s willing done) ≡ verdictOf (runFrom f more t willing done)
     unfolding runFrom
     word-goes t h = simp (e, h) (obey-willing verdictOf (λ e r. refl) c s (λ j. runFrom f more t j done))
 
-    pub word-finishes : (p : Phase) → turn f c s ≡ finishes p → verdictOf (runFrom f (word ∷ more) s willing done) ≡ Passes p
+    pub word-finishes : (p : Phase) → effectOf f c s ≡ finishes p → verdictOf (runFrom f (word ∷ more) s willing done) ≡ Passes p
     unfolding runFrom
     word-finishes p h = simp (e, h) (obey-willing verdictOf (λ e r. refl) c s (λ j. done p j))
 

@@ -16,24 +16,24 @@ use Rattle.controller.specs.declared.Place.{Place}
 use Rattle.controller.specs.declared.model.Trace.{Trace}
 use Rattle.controller.specs.declared.model.Bench.{Bench}
 use Rattle.controller.specs.declared.model.Traced.{Traced}
-use Rattle.controller.specs.Rules.{State, Turn, halts, goesOn, finishes, mayStart, mayWrite, mayRead, mayStop, mayEnd, turn}
+use Rattle.controller.specs.Rules.{State, Effect, halts, goesOn, finishes, mayStart, mayWrite, mayRead, mayStop, mayEnd, effectOf}
 use Rattle.controller.specs.Places.{stateAt, Inside}
 use Rattle.controller.specs.Model.{Sensor, Run, Commands}
 use Rattle.controller.specs.Traces.{Reported}
 use Rattle.controller.specs.Tracing.{Within, Tells, ComesTo, writtenBy, receivedBy, eventsBy, Fits}
 
--- what a command has used of the FIFO and of the bytes that may be received, where its turn goes on or finishes the list
-abbrev Spent : Command → State → Turn → Type 0
+-- what a command has used of the FIFO and of the bytes that may be received, where its effect is to go on or to finish the list
+abbrev Spent : Command → State → Effect → Type 0
 Spent c s halts = Unit {0}
 Spent c s (goesOn t) = (length (s .fifo) ≡ writtenBy c + length (t .fifo)) × (t .received ≡ s .received + receivedBy c)
 Spent c s (finishes p) = (writtenBy c ≡ 0) × (receivedBy c ≡ 0)
 
-spent-if : (c : Command) (s : State) (b : Bool) (x : Turn) → (b ≡ true → Spent c s x) → Spent c s (cond b x halts)
+spent-if : (c : Command) (s : State) (b : Bool) (x : Effect) → (b ≡ true → Spent c s x) → Spent c s (cond b x halts)
 spent-if c s true x h = h refl
 spent-if c s false x h = tt
 
-turn-spends : (f : ℕ) (c : Command) (s : State) → Spent c s (turn f c s)
-unfolding turn
+turn-spends : (f : ℕ) (c : Command) (s : State) → Spent c s (effectOf f c s)
+unfolding effectOf
 turn-spends f Start s = spent-if Start s (mayStart (s .phase)) _ (λ b. (omega arith, omega arith))
 turn-spends f (Write n) s =
     spent-if (Write n) s (leb n (length (s .fifo)) && mayWrite n (getD (s .fifo) 0 0) (s .phase)) _
@@ -52,12 +52,12 @@ module _
     (i : ℕ) (more : i < 8)
     (b : Bench) (whole : b .cut ≡ false) (within : Within (i + s .at + s .received) (s .received) (b .trace))
     (c : Command) where
-  pub finishes-fits : (p : Phase) → turn 32 c (stateAt fifo s) ≡ finishes p → Fits fifo s c b
+  pub finishes-fits : (p : Phase) → effectOf 32 c (stateAt fifo s) ≡ finishes p → Fits fifo s c b
   finishes-fits p e =
       let spent = rw e at (turn-spends 32 c (stateAt fifo s)) in
       (whole, omega arith, omega arith, omega arith)
 
-  module _ (q : Place) (e : turn 32 c (stateAt fifo s) ≡ goesOn (stateAt fifo q)) (stays : Inside 32 fifo q) where
+  module _ (q : Place) (e : effectOf 32 c (stateAt fifo s) ≡ goesOn (stateAt fifo q)) (stays : Inside 32 fifo q) where
     pub goes-fits : Fits fifo s c b
     goes-fits =
         let spent = simp length-drop at (rw e at (turn-spends 32 c (stateAt fifo s))) in

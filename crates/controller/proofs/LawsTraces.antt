@@ -19,7 +19,7 @@ use Rattle.controller.specs.declared.Place.{Place}
 use Rattle.controller.specs.declared.model.Trace.{Trace}
 use Rattle.controller.specs.declared.model.Bench.{Bench}
 use Rattle.controller.specs.declared.model.Traced.{Traced}
-use Rattle.controller.specs.Rules.{State, Turn, halts, goesOn, finishes, turn}
+use Rattle.controller.specs.Rules.{State, Effect, halts, goesOn, finishes, effectOf}
 use Rattle.controller.specs.Places.{Inside}
 use Rattle.controller.specs.Model.{Sensor, Run, stuck, refused, done, put, get, obey, runFrom, Commands, runList, eventsOf}
 use Rattle.controller.specs.Traces.{Reported, sentKind, gotKind}
@@ -84,19 +84,19 @@ module _ (f : ℕ) (words : List ℕ) (i : ℕ) (s : State) where
     run-malformed k e = rw (drop-cons words i 0 here, e)
 
     module _ (c : Command) (e : meaningOf (getD words i 0) ≡ Planned c) where
-      pub run-halts : (k : Sensor) → turn f c s ≡ halts → runFrom f (drop i words) s k done ≡ stuck
+      pub run-halts : (k : Sensor) → effectOf f c s ≡ halts → runFrom f (drop i words) s k done ≡ stuck
       unfolding runFrom
       run-halts k h = rw (drop-cons words i 0 here, e, h)
 
       module _ (b o : Bench) (sends : List ℕ) (obeyed : ComesTo b sends (obey c s) o) where
         pub run-finishes :
             (p : Phase)
-            → turn f c s ≡ finishes p
+            → effectOf f c s ≡ finishes p
             → traced (b .trace) (runFrom f (drop i words) s (sensorAt sends b) done) ≡ resumed o sends (done p)
         unfolding runFrom
         run-finishes p h = rw (drop-cons words i 0 here, e, h) (obeyed (done p))
 
-        module _ (t : State) (h : turn f c s ≡ goesOn t) where
+        module _ (t : State) (h : effectOf f c s ≡ goesOn t) where
           run-resumed :
               traced (b .trace) (runFrom f (drop i words) s (sensorAt sends b) done)
               ≡ resumed o sends (λ j. runFrom f (drop (i + 1) words) t j done)

@@ -14,7 +14,7 @@ use Rattle.command.specs.declared.Meaning.the-variants.{Planned, Malformed}
 use Rattle.command.specs.Word.{meaningOf}
 use Rattle.controller.specs.declared.Phase.{Phase}
 use Rattle.controller.specs.declared.Phase.the-variants.{Idle, Started, Writing, Reading, ReadDone}
-use Rattle.controller.specs.Rules.{State, Turn, halts, goesOn, finishes, turn}
+use Rattle.controller.specs.Rules.{State, Effect, halts, goesOn, finishes, effectOf}
 
 -- "A sensor is a list of bytes (255 beyond it) and the number, from 1 over the whole run, of the first written byte it doesn't
 -- acknowledge, or none": what is left of it. `refuses` counts down to that byte; 0 is none
@@ -51,8 +51,8 @@ obey ReadNack s k next = get nack 1 (k .sends) (k .refuses) next
 obey Stop s k next = emit stopBit (next k)
 obey End s k next = next k
 
--- a command that its turn allows is obeyed; then the run goes on, or the list is finished
-abbrev pub follow : Turn → ((Sensor → Run) → Run) → (State → Sensor → Run) → (Phase → Sensor → Run) → Run
+-- a command that its effect allows is obeyed; then the run goes on, or the list is finished
+abbrev pub follow : Effect → ((Sensor → Run) → Run) → (State → Sensor → Run) → (Phase → Sensor → Run) → Run
 follow halts obeyed on finish = stuck
 follow (goesOn s) obeyed on finish = obeyed (on s)
 follow (finishes p) obeyed on finish = obeyed (finish p)
@@ -66,7 +66,7 @@ meant (Planned c) run = run c
 unfoldable pub runFrom : ℕ → List ℕ → State → Sensor → (Phase → Sensor → Run) → Run
 runFrom f [] s k finish = stuck
 runFrom f (word ∷ more) s k finish =
-    meant (meaningOf word) (λ c. follow (turn f c s) (obey c s k) (λ t j. runFrom f more t j finish) finish)
+    meant (meaningOf word) (λ c. follow (effectOf f c s) (obey c s k) (λ t j. runFrom f more t j finish) finish)
 
 -- a list: its words, and the bytes in its FIFO
 pub record Commands : Type 0 where

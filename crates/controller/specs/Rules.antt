@@ -17,10 +17,10 @@ pub record State : Type 0 where
   pub received : ℕ
 
 -- what a command comes to: it halts the controller, it goes on, or it finishes the list in a phase
-pub data Turn : Type 0 where
-  halts : Turn
-  goesOn : State → Turn
-  finishes : Phase → Turn
+pub data Effect : Type 0 where
+  halts : Effect
+  goesOn : State → Effect
+  finishes : Phase → Effect
 
 -- "START needs Idle, Writing or ReadDone."
 abbrev pub mayStart : Phase → Bool
@@ -74,25 +74,25 @@ mayEnd Reading = true
 mayEnd ReadDone = true
 
 -- "READ needs Reading and at most 32 received in this list": n bytes, and the phase after them
-abbrev pub receives : ℕ → ℕ → Phase → State → Turn
-receives f n after s =
+abbrev pub readTurn : ℕ → ℕ → Phase → State → Effect
+readTurn f n after s =
     cond (mayRead (s .phase) && leb (s .received + n) f)
     (goesOn (record { phase = after; fifo = s .fifo; received = s .received + n }))
     halts
 
 -- "Both finish the list and need an empty FIFO."
-abbrev pub closes : Bool → Phase → State → Turn
+abbrev pub closes : Bool → Phase → State → Effect
 closes allowed after s = cond (allowed && eqb (length (s .fifo)) 0) (finishes after) halts
 
 -- what each command needs and where it leads: "WRITE n needs n FIFO bytes"; of a READ "NACK leads to ReadDone"; "STOP .. leads to Idle"
-unfoldable pub turn : ℕ → Command → State → Turn
-turn f Start s =
+unfoldable pub effectOf : ℕ → Command → State → Effect
+effectOf f Start s =
     cond (mayStart (s .phase)) (goesOn (record { phase = Started; fifo = s .fifo; received = s .received })) halts
-turn f (Write n) s =
+effectOf f (Write n) s =
     cond (leb n (length (s .fifo)) && mayWrite n (getD (s .fifo) 0 0) (s .phase))
     (goesOn (record { phase = afterWrite (getD (s .fifo) 0 0) (s .phase); fifo = drop n (s .fifo); received = s .received }))
     halts
-turn f (Read n) s = receives f n Reading s
-turn f ReadNack s = receives f 1 ReadDone s
-turn f Stop s = closes (mayStop (s .phase)) Idle s
-turn f End s = closes (mayEnd (s .phase)) (s .phase) s
+effectOf f (Read n) s = readTurn f n Reading s
+effectOf f ReadNack s = readTurn f 1 ReadDone s
+effectOf f Stop s = closes (mayStop (s .phase)) Idle s
+effectOf f End s = closes (mayEnd (s .phase)) (s .phase) s

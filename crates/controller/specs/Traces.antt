@@ -55,24 +55,24 @@ leftOf (done p k) = k .refuses
 leftOf (emit e r) = leftOf r
 
 -- both lent outputs have room for what the run gives: so many received bytes, so many bytes of events
-abbrev pub roomFor : Run → ℕ → ℕ → Bool
-roomFor r receivedRoom eventsRoom =
+abbrev pub traceFits : Run → ℕ → ℕ → Bool
+traceFits r receivedRoom eventsRoom =
     leb (length (receivedBytes (eventsOf r))) receivedRoom && leb (length (trafficBytes (eventsOf r))) eventsRoom
 
-abbrev pub noRoom : Report
-noRoom = record { answer = NoRoom; received = 0; events = 0; refuses = 0 }
+abbrev pub traceRoomless : Report
+traceRoomless = record { answer = NoRoom; received = 0; events = 0; refuses = 0 }
 
 -- the answer: how the run ended, how many bytes it received and how many events there were; 7 where there is too little room
-abbrev pub reportOf : Run → ℕ → ℕ → Report
-reportOf r receivedRoom eventsRoom =
-    cond (roomFor r receivedRoom eventsRoom)
+abbrev pub traceReport : Run → ℕ → ℕ → Report
+traceReport r receivedRoom eventsRoom =
+    cond (traceFits r receivedRoom eventsRoom)
     (record {
       answer = Ran (endingOf r);
       received = length (receivedBytes (eventsOf r));
       events = length (eventsOf r);
       refuses = leftOf r;
     })
-    noRoom
+    traceRoomless
 
 -- lent memory at exit: the answer's bytes in front, "bytes past an answer stay"; untouched where there is too little room
 abbrev pub laid : Bool → List ℕ → List ℕ → List ℕ
@@ -85,6 +85,6 @@ runOf words fifo phase sends refuses =
 
 -- what a call leaves of a run: the report, and the two lent outputs, each as it was and as it is
 pub record Reported (r : Run) (report : Report) (received receivedAfter events eventsAfter : List ℕ) : Type 0 where
-  pub reported : report ≡ reportOf r (length received) (length events)
-  pub receivedLaid : receivedAfter ≡ laid (roomFor r (length received) (length events)) (receivedBytes (eventsOf r)) received
-  pub eventsLaid : eventsAfter ≡ laid (roomFor r (length received) (length events)) (trafficBytes (eventsOf r)) events
+  pub reported : report ≡ traceReport r (length received) (length events)
+  pub receivedLaid : receivedAfter ≡ laid (traceFits r (length received) (length events)) (receivedBytes (eventsOf r)) received
+  pub eventsLaid : eventsAfter ≡ laid (traceFits r (length received) (length events)) (trafficBytes (eventsOf r)) events

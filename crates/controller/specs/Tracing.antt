@@ -15,7 +15,7 @@ use Rattle.controller.specs.declared.model.Bench.{Bench}
 use Rattle.controller.specs.declared.model.Traced.{Traced}
 use Rattle.controller.specs.Model.{Sensor, Run, refused, eventsOf}
 use Rattle.controller.specs.Verdicts.{runOne}
-use Rattle.controller.specs.Traces.{sentKind, gotKind, trafficBytes, receivedBytes, endingOf, leftOf, roomFor, reportOf, laid}
+use Rattle.controller.specs.Traces.{sentKind, gotKind, trafficBytes, receivedBytes, endingOf, leftOf, traceFits, traceReport, laid}
 
 abbrev pub blankTrace : Trace
 blankTrace = record { events = replicate 144 0; count = 0; received = replicate 32 0; got = 0 }

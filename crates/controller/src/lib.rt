@@ -2,7 +2,7 @@
 ghost use Prim.Native.Nat.{_≤_};
 ghost use mathlib.Core.Path.{_≡_};
 ghost use lib.ListN.{getD};
-ghost use Rattle.controller.specs.Rules.{isRead, mayStart, mayWrite, afterWrite, mayRead, mayStop, mayEnd, receives, closes, turn};
+ghost use Rattle.controller.specs.Rules.{isRead, mayStart, mayWrite, afterWrite, mayRead, mayStop, mayEnd, readTurn, closes, effectOf};
 ghost use Rattle.controller.specs.Places.{stateAt, Inside, Moved};
 ghost use Rattle.command.specs.declared.Command.the-variants.{Start, Write};
 use command::Command;
@@ -138,7 +138,7 @@ fn byte_at(bytes: &[u8], at: usize) -> u8
 
 fn start(fifo: &[u8], s: Place) -> Move
     requires { ⌜ Inside 32 (now fifo) s ⌝ }
-    ensures { λ r. ⌜ Moved 32 (now (fifo .entry)) r (turn 32 Start (stateAt (now (fifo .entry)) s)) ⌝ }
+    ensures { λ r. ⌜ Moved 32 (now (fifo .entry)) r (effectOf 32 Start (stateAt (now (fifo .entry)) s)) ⌝ }
 {
     let phase = s.phase;
     if may_start(phase) {
@@ -153,7 +153,7 @@ fn start(fifo: &[u8], s: Place) -> Move
 
 fn write(n: u8, fifo: &[u8], s: Place) -> Move
     requires { ⌜ Inside 32 (now fifo) s ⌝ }
-    ensures { λ r. ⌜ Moved 32 (now (fifo .entry)) r (turn 32 (Write n) (stateAt (now (fifo .entry)) s)) ⌝ }
+    ensures { λ r. ⌜ Moved 32 (now (fifo .entry)) r (effectOf 32 (Write n) (stateAt (now (fifo .entry)) s)) ⌝ }
 {
     let at = s.at;
     let phase = s.phase;
@@ -174,7 +174,7 @@ fn write(n: u8, fifo: &[u8], s: Place) -> Move
 
 fn receive(n: usize, after: Phase, fifo: &[u8], s: Place) -> Move
     requires { ⌜ Inside 32 (now fifo) s × (n ≤ 255) ⌝ }
-    ensures { λ r. ⌜ Moved 32 (now (fifo .entry)) r (receives 32 n after (stateAt (now (fifo .entry)) s)) ⌝ }
+    ensures { λ r. ⌜ Moved 32 (now (fifo .entry)) r (readTurn 32 n after (stateAt (now (fifo .entry)) s)) ⌝ }
 {
     let phase = s.phase;
     if !may_read(phase) {
@@ -206,7 +206,7 @@ fn close(allowed: bool, after: Phase, fifo: &[u8], s: Place) -> Move
 // What a command comes to at a place of a list.
 fn take_turn(command: Command, fifo: &[u8], s: Place) -> Move
     requires { ⌜ Inside 32 (now fifo) s ⌝ }
-    ensures { λ r. ⌜ Moved 32 (now (fifo .entry)) r (turn 32 command (stateAt (now (fifo .entry)) s)) ⌝ }
+    ensures { λ r. ⌜ Moved 32 (now (fifo .entry)) r (effectOf 32 command (stateAt (now (fifo .entry)) s)) ⌝ }
 {
     let phase = s.phase;
     match command {

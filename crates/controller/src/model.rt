@@ -8,7 +8,7 @@ ghost use Rattle.bus.specs.Events.{Acknowledge};
 ghost use Rattle.bus.specs.Traffic.{nextByte};
 ghost use Rattle.controller.specs.Places.{stateAt};
 ghost use Rattle.controller.specs.Model.{done, put, get, obey, runList};
-ghost use Rattle.controller.specs.Traces.{runOf, Reported, noRoom, gotKind, laid};
+ghost use Rattle.controller.specs.Traces.{runOf, Reported, traceRoomless, gotKind, laid};
 ghost use Rattle.controller.specs.Tracing.{blankTrace, noted, stored, Within, Tells, resumed, ComesTo, receivedBy, eventsBy, Fits};
 use crate::FIFO;
 use crate::Move;
@@ -316,7 +316,7 @@ fn lay(bytes: &[u8], size: usize, out: &mut [u8])
 
 // Refusal 7.
 fn no_room() -> Report
-    ensures { λ r. ⌜ r ≡ noRoom ⌝ }
+    ensures { λ r. ⌜ r ≡ traceRoomless ⌝ }
 {
     Report {
         answer: Answer::NoRoom,

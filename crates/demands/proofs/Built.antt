@@ -19,7 +19,7 @@ use Rattle.command.proofs.Words.{decode-encode}
 use Rattle.list.specs.Lists.{sentBytes, addressBytes, counted, closing, writeFifo, writeCommands, readFifo, readCommands, padded}
 use Rattle.controller.specs.declared.Phase.{Phase}
 use Rattle.controller.specs.declared.Phase.the-variants.{Idle, Started, Writing, Reading, ReadDone}
-use Rattle.controller.specs.Rules.{State, mayStart, mayWrite, afterWrite, mayStop, mayEnd, turn}
+use Rattle.controller.specs.Rules.{State, mayStart, mayWrite, afterWrite, mayStop, mayEnd, effectOf}
 use Rattle.controller.specs.Model.{Sensor, Run, stuck, emit, put, get, obey, meant, follow, runFrom, runList}
 use Rattle.demands.proofs.LawsBuilt.{put-append, goes-on}
 use Rattle.demands.specs.Built.{writeList, readList, opens, takesIn, shuts, fitsWrite, fitsRead, afterRead}
@@ -40,17 +40,17 @@ module _ (f : ℕ) (small : f ≤ 255) (finish : Phase → Sensor → Run) where
   run-command :
       (c : Command) (ws : List ℕ) (s : State) (k : Sensor)
       → Plannable c
-      → runFrom f (encodeOf c ∷ ws) s k finish ≡ follow (turn f c s) (obey c s k) (λ t j. runFrom f ws t j finish) finish
+      → runFrom f (encodeOf c ∷ ws) s k finish ≡ follow (effectOf f c s) (obey c s k) (λ t j. runFrom f ws t j finish) finish
   unfolding runFrom
   run-command c ws s k h =
-      ap (λ (m : Meaning). meant m (λ d. follow (turn f d s) (obey d s k) (λ t j. runFrom f ws t j finish) finish)) (decode-encode c h)
+      ap (λ (m : Meaning). meant m (λ d. follow (effectOf f d s) (obey d s k) (λ t j. runFrom f ws t j finish) finish)) (decode-encode c h)
 
   run-start :
       (ws fifo : List ℕ) (p : Phase) (r : ℕ) (k : Sensor)
       → mayStart p ≡ true
       → runFrom f (encodeOf Start ∷ ws) (record { phase = p; fifo = fifo; received = r }) k finish
       ≡ emit startBit (runFrom f ws (record { phase = Started; fifo = fifo; received = r }) k finish)
-  unfolding turn obey
+  unfolding effectOf obey
   run-start ws fifo p r k h = run-command Start ws _ k tt ∙ rw h
 
   -- a WRITE of the whole FIFO
@@ -61,7 +61,7 @@ module _ (f : ℕ) (small : f ≤ 255) (finish : Phase → Sensor → Run) where
       → runFrom f (encodeOf (Write (suc (length bytes))) ∷ ws) (record { phase = p; fifo = x ∷ bytes; received = r }) k finish
       ≡ put (x ∷ bytes) (k .sends) (k .refuses)
       (λ j. runFrom f ws (record { phase = afterWrite x p; fifo = []; received = r }) j finish)
-  unfolding turn obey
+  unfolding effectOf obey
   run-write ws x bytes p r k h m =
       run-command (Write (suc (length bytes))) ws _ k (omega arith)
       ∙ rw (le-leb (suc (length bytes)) (suc (length bytes)) (omega arith), m, take-length bytes, drop-length bytes)
@@ -71,7 +71,7 @@ module _ (f : ℕ) (small : f ≤ 255) (finish : Phase → Sensor → Run) where
       (start stop : Bool) (p : Phase) (zs : List ℕ) (r : ℕ) (k : Sensor)
       → Closable stop p
       → runFrom f (map encodeOf (closing start stop) ++ zs) (record { phase = p; fifo = []; received = r }) k finish ≡ shuts stop p k finish
-  unfolding runFrom turn obey meaningOf within
+  unfolding runFrom effectOf obey meaningOf within
   run-closing true true p zs r k h = rw h
   run-closing true false p zs r k h = rw h
   run-closing false true p zs r k h = rw h
@@ -83,7 +83,7 @@ module _ (f : ℕ) (small : f ≤ 255) (finish : Phase → Sensor → Run) where
       → r + n ≤ f
       → runFrom f (map encodeOf (counted Read n) ++ ws) (record { phase = Reading; fifo = fifo; received = r }) k finish
       ≡ get ack n (k .sends) (k .refuses) (λ j. runFrom f ws (record { phase = Reading; fifo = fifo; received = r + n }) j finish)
-  unfolding turn obey get
+  unfolding effectOf obey get
   run-read zero ws fifo r k h = rw (add-zero r)
   run-read (suc n) ws fifo r k h = run-command (Read (suc n)) ws _ k (omega arith) ∙ rw (le-leb (r + suc n) f h)
 
@@ -92,7 +92,7 @@ module _ (f : ℕ) (small : f ≤ 255) (finish : Phase → Sensor → Run) where
       → r + 1 ≤ f
       → runFrom f (encodeOf ReadNack ∷ ws) (record { phase = Reading; fifo = fifo; received = r }) k finish
       ≡ get nack 1 (k .sends) (k .refuses) (λ j. runFrom f ws (record { phase = ReadDone; fifo = fifo; received = r + 1 }) j finish)
-  unfolding turn obey
+  unfolding effectOf obey
   run-nack ws fifo r k h = run-command ReadNack ws _ k tt ∙ rw (le-leb (r + 1) f h)
 
   closable-writing : (stop : Bool) → Closable stop Writing
@@ -206,7 +206,7 @@ module _ (f : ℕ) (small : f ≤ 255) (finish : Phase → Sensor → Run) where
       → fitsRead start p ≡ true
       → runList f (readList address n start true true) p k finish
       ≡ opens start (addressBytes address fromSensor) k (λ j. takesIn true n j (λ i. stuck))
-  unfolding turn
+  unfolding effectOf
   built-read-stuck address n start p k o n≤ h =
       read-then address n start true true p k o n≤ h
       ∙ ap (λ (g : Sensor → Run). opens start (addressBytes address fromSensor) k (λ j. takesIn true n j g))

@@ -10,7 +10,7 @@ use Rattle.bus_clear.specs.declared.BusClear.{BusClear}
 use Rattle.bus_clear.specs.declared.run.Terms.{Terms}
 use Rattle.bus_clear.specs.Clear.{stepOf}
 use Rattle.bus_clear.specs.Runs.{tapeOf, pollAll}
-use Rattle.demands.specs.Clears.{polledWith, madeWith, sampled, rises, falls, ClearsTheBus, movesNoPin, firstStepOnly, ours, CountsPolls, madeUp}
+use Rattle.demands.specs.Clears.{polledWith, madeWith, sampled, rises, falls, ClearsTheBus, movesNoPin, firstStepOnly, ourRun, CountsPolls, madeUp}
 
 pub step-clears-the-bus : ClearsTheBus stepOf
 unfolding stepOf polledWith madeWith sampled rises falls
@@ -25,7 +25,7 @@ unfolding stepOf madeWith sampled rises
 first-step-refuted clears = let z : _≡_ {A = ℕ} 1 10 = clears .ten-rises in omega arith
 
 -- what `run` reports is the number of steps that the definition takes on the tape
-pub run-counts : CountsPolls ours
+pub run-counts : CountsPolls ourRun
 run-counts t clocks levels c room h = simp h
 
 abbrev idle : BusClear

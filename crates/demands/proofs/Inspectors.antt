@@ -17,7 +17,7 @@ use Rattle.command.specs.Word.{meaningOf, within}
 use Rattle.controller.specs.declared.Phase.{Phase}
 use Rattle.controller.specs.declared.Phase.the-variants.{Idle, Started, Writing, Reading, ReadDone}
 use Rattle.controller.specs.declared.inspector.Verdict.the-variants.{Passes, Refused}
-use Rattle.controller.specs.Rules.{State, Turn, halts, goesOn, finishes, turn}
+use Rattle.controller.specs.Rules.{State, Effect, halts, goesOn, finishes, effectOf}
 use Rattle.controller.specs.Model.{Sensor, Run, stuck, refused, done, emit, put, get, obey, meant, follow, runFrom, Commands, runList, inPhase, endOf}
 use Rattle.controller.specs.Verdicts.{willing, runOne, verdictOf, inspected}
 use Rattle.controller.proofs.LawsRuns.{obey-willing}
@@ -67,21 +67,21 @@ module _ (f : ℕ) (more : List ℕ) (s : State) where
   on u j = runFrom f more u j done
 
   module _ (rest : (u : State) → Free (on u willing) → (k : Sensor) → Free (on u k)) (k : Sensor) where
-    turn-free : (c : Command) (t : Turn) → Free (follow t (obey c s willing) on done) → Free (follow t (obey c s k) on done)
+    turn-free : (c : Command) (t : Effect) → Free (follow t (obey c s willing) on done) → Free (follow t (obey c s k) on done)
     turn-free c halts h = h
     turn-free c (goesOn u) h = obey-free (on u) (rest u (λ e. h (obey-willing endOf past c s (on u) ∙ e))) c s k
     turn-free c (finishes p) h = obey-free (done p) (done-free p) c s k
 
     meaning-free :
         (m : Meaning)
-        → Free (meant m (λ c. follow (turn f c s) (obey c s willing) on done))
-        → Free (meant m (λ c. follow (turn f c s) (obey c s k) on done))
+        → Free (meant m (λ c. follow (effectOf f c s) (obey c s willing) on done))
+        → Free (meant m (λ c. follow (effectOf f c s) (obey c s k) on done))
     meaning-free Malformed h = h
-    meaning-free (Planned c) h = turn-free c (turn f c s) h
+    meaning-free (Planned c) h = turn-free c (effectOf f c s) h
 
   module _ (rest : (u : State) → verdictOf (on u willing) ≡ Refused → endOf (on u willing) ≡ stuck) where
     turn-stuck :
-        (c : Command) (t : Turn)
+        (c : Command) (t : Effect)
         → verdictOf (follow t (obey c s willing) on done) ≡ Refused
         → endOf (follow t (obey c s willing) on done) ≡ stuck
     unfolding endOf
@@ -92,11 +92,11 @@ module _ (f : ℕ) (more : List ℕ) (s : State) where
 
     meaning-stuck :
         (m : Meaning)
-        → verdictOf (meant m (λ c. follow (turn f c s) (obey c s willing) on done)) ≡ Refused
-        → endOf (meant m (λ c. follow (turn f c s) (obey c s willing) on done)) ≡ stuck
+        → verdictOf (meant m (λ c. follow (effectOf f c s) (obey c s willing) on done)) ≡ Refused
+        → endOf (meant m (λ c. follow (effectOf f c s) (obey c s willing) on done)) ≡ stuck
     unfolding endOf
     meaning-stuck Malformed h = refl
-    meaning-stuck (Planned c) h = turn-stuck c (turn f c s) h
+    meaning-stuck (Planned c) h = turn-stuck c (effectOf f c s) h
 
 module _ (f : ℕ) where
   -- what is free against the willing sensor is free against every sensor
@@ -185,7 +185,7 @@ module _ (f : ℕ) where
   -- a bare END in Writing finishes, whatever stands after it
   end-finishes :
       (more : List ℕ) → endOf (runOne f (record { words = 0x2000 ∷ more; fifo = [] }) 2 willing) ≡ done Writing willing
-  unfolding inPhase runList runFrom turn obey meaningOf within endOf
+  unfolding inPhase runList runFrom effectOf obey meaningOf within endOf
   end-finishes more = rw (leb·zero f)
 
   no-stuck-end : (more : List ℕ) → endOf (runOne f (record { words = 0x2000 ∷ more; fifo = [] }) 2 willing) ≡ stuck → ⊥
@@ -205,6 +205,6 @@ module _ (f : ℕ) where
 
   -- one byte is left in the FIFO at END
   pub forgotten-fifo-refuted : 1 ≤ f → Sound f (forgetsTheFifo f) → ⊥
-  unfolding inspected inPhase runList runFrom turn obey meaningOf within endOf
+  unfolding inspected inPhase runList runFrom effectOf obey meaningOf within endOf
   forgotten-fifo-refuted small sound =
       sound (record { words = 0x2000 ∷ []; fifo = 7 ∷ [] }) 2 Writing (rw (leb·zero f)) willing (rw (le-leb 1 f small))

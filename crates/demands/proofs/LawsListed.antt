@@ -19,7 +19,7 @@ use Rattle.list.specs.declared.Built.{Built}
 use Rattle.list.specs.declared.CommandList.{CommandList}
 use Rattle.list.specs.Lists.{writeLimit, readLimit, listed, unlisted, writeStepOf, readStepOf}
 use Rattle.list.proofs.Laws.{write-limit-opened, write-listed, read-listed}
-use Rattle.turns.specs.Steps.{Step, writeStep, readStep, Before, nothing, after, starts, none, readFollows, writeSteps, readSteps, stepsFrom}
+use Rattle.turns.specs.Steps.{Step, writeStep, readStep, Before, nothing, after, starts, isEmpty, readFollows, writeSteps, readSteps, stepsFrom}
 use Rattle.turns.specs.Plan.{builtOf, listOf, listsOf, planned}
 use Rattle.turns.specs.Turns.{listless, withList, turnsOf}
 
@@ -57,16 +57,16 @@ steps-fit : (b : Before) (os : List Operation) → AllFit (stepsFrom 31 b os)
 unfolding stepsFrom
 steps-fit b [] = tt
 steps-fit b (write bytes ∷ os) =
-    fit-append (writeSteps (pieces 31 (length bytes)) bytes (starts b toSensor) (none os)) (stepsFrom 31 (after toSensor) os)
-    (write-fit (pieces 31 (length bytes)) bytes (starts b toSensor) (none os) (pieces-small (length bytes)))
+    fit-append (writeSteps (pieces 31 (length bytes)) bytes (starts b toSensor) (isEmpty os)) (stepsFrom 31 (after toSensor) os)
+    (write-fit (pieces 31 (length bytes)) bytes (starts b toSensor) (isEmpty os) (pieces-small (length bytes)))
     (steps-fit (after toSensor) os)
 steps-fit b (read n ∷ os) =
-    fit-append (readSteps (pieces 31 n) (starts b fromSensor) (none os) (readFollows os)) (stepsFrom 31 (after fromSensor) os)
-    (read-fit (pieces 31 n) (starts b fromSensor) (none os) (readFollows os) (pieces-small n))
+    fit-append (readSteps (pieces 31 n) (starts b fromSensor) (isEmpty os) (readFollows os)) (stepsFrom 31 (after fromSensor) os)
+    (read-fit (pieces 31 n) (starts b fromSensor) (isEmpty os) (readFollows os) (pieces-small n))
     (steps-fit (after fromSensor) os)
 
 module _ (address : ℕ) (known : address ≤ 127) where
-  none-empty : (bytes : List ℕ) → none bytes ≡ eqb (length bytes) 0
+  none-empty : (bytes : List ℕ) → isEmpty bytes ≡ eqb (length bytes) 0
   none-empty [] = refl
   none-empty (b ∷ bytes) = sym (ne-eqb (suc (length bytes)) 0 (λ e. absurd (omega arith)))
 

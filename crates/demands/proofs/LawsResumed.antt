@@ -13,7 +13,7 @@ use Rattle.list.specs.Lists.{addressBytes}
 use Rattle.controller.specs.declared.Phase.{Phase}
 use Rattle.controller.specs.declared.Phase.the-variants.{Idle, Writing}
 use Rattle.controller.specs.Model.{Sensor, Run, done, emit, put, runLists}
-use Rattle.turns.specs.Steps.{Before, nothing, after, starts, none, readFollows, stepsFrom}
+use Rattle.turns.specs.Steps.{Before, nothing, after, starts, isEmpty, readFollows, stepsFrom}
 use Rattle.turns.specs.Plan.{listsOf}
 use Rattle.demands.specs.Built.{opens, takesIn, shuts, fitsWrite, fitsRead, afterRead}
 use Rattle.demands.proofs.LawsBuilt.{put-append}
@@ -117,7 +117,7 @@ read-fits-in (after toSensor) n os = refl
 read-fits-in (after fromSensor) n os = refl
 
 -- what continues does not stop
-follows-or-last : (os : List Operation) → (readFollows os && none os) ≡ false
+follows-or-last : (os : List Operation) → (readFollows os && isEmpty os) ≡ false
 follows-or-last [] = refl
 follows-or-last (write bytes ∷ os) = refl
 follows-or-last (read n ∷ os) = refl
@@ -125,19 +125,19 @@ follows-or-last (read n ∷ os) = refl
 module _ (f c : ℕ) (small : f ≤ 255) (fits : c + 1 ≤ f) (four : 4 ≤ c) (address : ℕ) (known : address ≤ 127) where
   pub runs-on :
       (os : List Operation) (b : Before) (k : Sensor)
-      → shuts (none (kept os)) (phaseAfter b (kept os)) k (goes f small address known (stepsFrom c b (kept os)))
+      → shuts (isEmpty (kept os)) (phaseAfter b (kept os)) k (goes f small address known (stepsFrom c b (kept os)))
       ≡ resume address b (runs (kept os)) k
   unfolding kept runs stepsFrom listsOf runLists resume
   runs-on [] b k = refl
   runs-on (write bytes ∷ os) b k =
-      write-pieces f small address known c fits (pieces c (length bytes)) bytes (starts b toSensor) (none (kept os))
+      write-pieces f small address known c fits (pieces c (length bytes)) bytes (starts b toSensor) (isEmpty (kept os))
       (stepsFrom c (after toSensor) (kept os)) _ k (pieces-cut c four (length bytes)) (write-fits-in b bytes (kept os))
       ∙ ap (λ (next : Sensor → Run). opens (starts b toSensor) (addressBytes address toSensor) k (λ j. put bytes (j .sends) (j .refuses) next))
       (fun-ext (λ i. runs-on os (after toSensor) i))
       ∙ sym (resume-write address b bytes (runs (kept os)) k)
   runs-on (read zero ∷ os) b k = runs-on os b k
   runs-on (read (suc n) ∷ os) b k =
-      read-pieces f small address known c fits (pieces c (suc n)) (suc n) (starts b fromSensor) (none (kept os)) (readFollows (kept os))
+      read-pieces f small address known c fits (pieces c (suc n)) (suc n) (starts b fromSensor) (isEmpty (kept os)) (readFollows (kept os))
       (stepsFrom c (after fromSensor) (kept os)) _ k (pieces-cut c four (suc n)) (omega arith) (read-fits-in b (suc n) (kept os))
       (follows-or-last (kept os))
       ∙ ap (λ (next : Sensor → Run).

@@ -14,7 +14,7 @@ use Rattle.bus.specs.Traffic.{opening, written, nextByte, received, transferred
 use Rattle.list.specs.Lists.{sentBytes, addressBytes}
 use Rattle.controller.specs.declared.Phase.the-variants.{Idle}
 use Rattle.controller.specs.Model.{Sensor, Run, stuck, refused, done, emit, put, get, runLists, eventsOf, endOf}
-use Rattle.turns.specs.Steps.{nothing, none, stepsFrom}
+use Rattle.turns.specs.Steps.{nothing, isEmpty, stepsFrom}
 use Rattle.turns.specs.Plan.{listsOf, planned}
 use Rattle.demands.specs.Built.{takesIn, shuts}
 use Rattle.demands.specs.Plans.{meets, planRun}
@@ -122,7 +122,7 @@ module _
       where
         go :
             (ks : List Operation)
-            → shuts (none ks) Idle k (goes f small address known (stepsFrom c nothing ks))
+            → shuts (isEmpty ks) Idle k (goes f small address known (stepsFrom c nothing ks))
             ≡ meets (transferred address (k .sends) (runs ks)) (k .sends) (k .refuses)
             → goes f small address known (stepsFrom c nothing ks) Idle k
             ≡ meets (onBus address (k .sends) (runs ks)) (k .sends) (k .refuses)

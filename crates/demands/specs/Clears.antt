@@ -15,18 +15,18 @@ use Rattle.bus_clear.specs.declared.run.Terms.{Terms}
 use Rattle.bus_clear.specs.declared.run.Report.{Report}
 use Rattle.bus_clear.specs.Pins.{Change, scl, sda}
 use Rattle.bus_clear.specs.Clear.{hold, freshOf, stepOf}
-use Rattle.bus_clear.specs.Runs.{Sample, polledOver, madeBy, roomFor, reportOf}
+use Rattle.bus_clear.specs.Runs.{Sample, polledOver, madeBy, runFits, runReport}
 
 -- a step: the record, whether there are pins, the clock, what SDA reads
-abbrev pub Step : Type 0
-Step = BusClear → Bool → ℕ → Bool → Stepped
+abbrev pub ClearStep : Type 0
+ClearStep = BusClear → Bool → ℕ → Bool → Stepped
 
 -- every sample of a tape polled, with pins: the record that is left, and the pin changes
-unfoldable pub polledWith : Step → List Sample → BusClear → BusClear
+unfoldable pub polledWith : ClearStep → List Sample → BusClear → BusClear
 polledWith step [] c = c
 polledWith step (s ∷ tape) c = polledWith step tape (step c true (s .clock) (s .sda) .next)
 
-unfoldable pub madeWith : Step → List Sample → BusClear → List Change
+unfoldable pub madeWith : ClearStep → List Sample → BusClear → List Change
 madeWith step [] c = []
 madeWith step (s ∷ tape) c =
     madeBy (step c true (s .clock) (s .sda) .answer) ++ madeWith step tape (step c true (s .clock) (s .sda) .next)
@@ -56,7 +56,7 @@ abbrev pub fresh : BusClear
 fresh = freshOf true 0 .clear
 
 -- "SDA always low: Idle after 20 acting polls, 9 falls, 10 rises of SCL."
-pub record ClearsTheBus (step : Step) : Type 0 where
+pub record ClearsTheBus (step : ClearStep) : Type 0 where
   pub not-before : polledWith step (alwaysLow 19) fresh .state ≡ SendStop
   pub idle : polledWith step (alwaysLow 20) fresh .state ≡ Idle
   pub nine-falls : falls (madeWith step (alwaysLow 20) fresh) ≡ 9
@@ -68,7 +68,7 @@ silent Ready = Ready
 silent (Pending p) = Pending Still
 silent ClockRange = ClockRange
 
-abbrev pub movesNoPin : Step
+abbrev pub movesNoPin : ClearStep
 movesNoPin c pins now level =
     record { next = stepOf c pins now level .next; answer = silent (stepOf c pins now level .answer) }
 
@@ -79,7 +79,7 @@ onlyFrom SendStop first other = other
 onlyFrom (SendClock n true) first other = other
 onlyFrom (SendClock n false) first other = first
 
-abbrev pub firstStepOnly : Step
+abbrev pub firstStepOnly : ClearStep
 firstStepOnly c pins now level = onlyFrom (c .state) (stepOf c pins now level) (record { next = c; answer = Pending Still })
 
 -- a run: its terms, the tape, the record, and the room for its pin changes
@@ -87,23 +87,23 @@ abbrev pub Runner : Type 0
 Runner = Terms → List ℕ → List ℕ → BusClear → ℕ → Report
 
 -- what `run` returns, by its contract
-abbrev pub ours : Runner
-ours t clocks levels c room = reportOf t c (polledOver t clocks levels c) room
+abbrev pub ourRun : Runner
+ourRun t clocks levels c room = runReport t c (polledOver t clocks levels c) room
 
 -- "the reported count equals the definition's steps over the sample tape", wherever there is room to report
 abbrev pub CountsPolls : Runner → Type 0
 CountsPolls run =
     (t : Terms) (clocks levels : List ℕ) (c : BusClear) (room : ℕ)
-    → roomFor t (polledOver t clocks levels c) room ≡ true
+    → runFits t (polledOver t clocks levels c) room ≡ true
     → run t clocks levels c room .polls ≡ polledOver t clocks levels c .polls
 
 -- WRONG: reports a made-up number of polls
 abbrev pub madeUp : ℕ → Runner
 madeUp n t clocks levels c room =
     record {
-      answer = ours t clocks levels c room .answer;
+      answer = ourRun t clocks levels c room .answer;
       polls = n;
-      clear = ours t clocks levels c room .clear;
-      changes = ours t clocks levels c room .changes;
-      reset = ours t clocks levels c room .reset;
+      clear = ourRun t clocks levels c room .clear;
+      changes = ourRun t clocks levels c room .changes;
+      reset = ourRun t clocks levels c room .reset;
     }

@@ -49,18 +49,18 @@ abbrev pub looksPastTheFinish : ℕ → Inspector
 looksPastTheFinish f l n = cond (allPlanned (l .words)) (inspected f l n) Refused
 
 -- WRONG: forgets that the FIFO must be empty: the bytes that no WRITE takes are left out
-abbrev pub takes : Meaning → ℕ
-takes (Planned Start) = 0
-takes (Planned (Write n)) = n
-takes (Planned (Read n)) = 0
-takes (Planned ReadNack) = 0
-takes (Planned Stop) = 0
-takes (Planned End) = 0
-takes Malformed = 0
+abbrev pub bytesTaken : Meaning → ℕ
+bytesTaken (Planned Start) = 0
+bytesTaken (Planned (Write n)) = n
+bytesTaken (Planned (Read n)) = 0
+bytesTaken (Planned ReadNack) = 0
+bytesTaken (Planned Stop) = 0
+bytesTaken (Planned End) = 0
+bytesTaken Malformed = 0
 
 abbrev pub taken : List ℕ → ℕ
 taken [] = 0
-taken (word ∷ more) = takes (meaningOf word) + taken more
+taken (word ∷ more) = bytesTaken (meaningOf word) + taken more
 
 abbrev pub forgetsTheFifo : ℕ → Inspector
 forgetsTheFifo f l n = inspected f (record { words = l .words; fifo = take (taken (l .words)) (l .fifo) }) n

@@ -19,17 +19,17 @@ use Rattle.demands.specs.Built.{held}
 abbrev pub Planner : Type 0
 Planner = ℕ → List Operation → List Commands
 
-abbrev pub ours : Planner
-ours address os = map held (planned 32 31 address os)
+abbrev pub ourPlanner : Planner
+ourPlanner address os = map held (planned 32 31 address os)
 
 -- demand 3: "Every planned list passes in its turn from Idle"
-abbrev pub andThen : Verdict → (Phase → Verdict) → Verdict
-andThen Refused next = Refused
-andThen (Passes p) next = next p
+abbrev pub passingOn : Verdict → (Phase → Verdict) → Verdict
+passingOn Refused next = Refused
+passingOn (Passes p) next = next p
 
 unfoldable pub inTurn : ℕ → List Commands → Phase → Verdict
 inTurn f [] p = Passes p
-inTurn f (l ∷ ls) p = andThen (inspected f l (phaseNumber p)) (λ q. inTurn f ls q)
+inTurn f (l ∷ ls) p = passingOn (inspected f l (phaseNumber p)) (λ q. inTurn f ls q)
 
 abbrev pub PassesInTurn : Planner → Type 0
 PassesInTurn plan = (address : ℕ) (os : List Operation) → address ≤ 127 → inTurn 32 (plan address os) Idle ≡ Passes Idle
@@ -43,8 +43,8 @@ PutsTraffic plan =
 
 -- WRONG PLANNERS
 -- it refuses all
-abbrev pub refusesAll : Planner
-refusesAll address os = []
+abbrev pub plansNothing : Planner
+plansNothing address os = []
 
 -- one list without a command
 abbrev pub emptyList : Planner
@@ -57,8 +57,8 @@ fixedList address os = record { words = 0x3000 ∷ 0x0901 ∷ 0x1000 ∷ replica
 -- a right first list, and bare STOPs after it
 abbrev pub bareStops : Planner
 bareStops address os =
-    take 1 (ours address os)
-    ++ map (λ (l : Commands). record { words = 0x1000 ∷ replicate 7 0; fifo = [] }) (drop 1 (ours address os))
+    take 1 (ourPlanner address os)
+    ++ map (λ (l : Commands). record { words = 0x1000 ∷ replicate 7 0; fifo = [] }) (drop 1 (ourPlanner address os))
 
 -- the empty writes are dropped too
 unfoldable pub withoutEmptyWrites : List Operation → List Operation
@@ -68,7 +68,7 @@ withoutEmptyWrites (write (b ∷ bytes) ∷ os) = write (b ∷ bytes) ∷ withou
 withoutEmptyWrites (read n ∷ os) = read n ∷ withoutEmptyWrites os
 
 abbrev pub dropsEmptyWrites : Planner
-dropsEmptyWrites address os = ours address (withoutEmptyWrites os)
+dropsEmptyWrites address os = ourPlanner address (withoutEmptyWrites os)
 
 -- every piece of a read ends with NACK
 abbrev pub ending : Step → Step

@@ -55,8 +55,8 @@ abbrev pub address : ℕ
 address = 0x29
 
 -- the builder's answer to a write of n bytes, and to a read of n
-abbrev pub written : ℕ → Bool → Answer
-written n start = writeOf fifo address (replicate n 7) start true .answer
+abbrev pub writeAnswer : ℕ → Bool → Answer
+writeAnswer n start = writeOf fifo address (replicate n 7) start true .answer
 
 abbrev pub readAs : ℕ → Bool → Answer
 readAs n continues = readOf fifo address n true false continues .answer
@@ -65,12 +65,12 @@ readAs n continues = readOf fifo address n true false continues .answer
 abbrev pub list : List ℕ → List ℕ → Commands
 list words fifo = record { words = words; fifo = fifo }
 
-abbrev pub listsOf : Script → List Commands
-listsOf (asks os) = map held (planned fifo chunk address os)
-listsOf (refused r) = []
+abbrev pub scriptWords : Script → List Commands
+scriptWords (asks os) = map held (planned fifo chunk address os)
+scriptWords (refused r) = []
 
 abbrev pub scriptLists : List ℕ → List Commands
-scriptLists bytes = listsOf (scriptOf address bytes)
+scriptLists bytes = scriptWords (scriptOf address bytes)
 
 abbrev pub plannedWords : List Operation → List (List ℕ)
 plannedWords os = map (λ (l : CommandList). l .words) (planned fifo chunk address os)
@@ -119,10 +119,10 @@ starred =
     ∷ list (0x3000 ∷ 0x0901 ∷ 0x1801 ∷ 0x1C01 ∷ 0x1000 ∷ 0 ∷ 0 ∷ 0 ∷ []) (0x53 ∷ [])
     ∷ []))
     -- K3: write limit: 31 with start passes, 32 gives 3; without, 32 passes, 33 gives 3
-    ∷ (written 31 true is Listed)
-    ∷ (written 32 true is Refused FifoExceeded)
-    ∷ (written 32 false is Listed)
-    ∷ (written 33 false is Refused FifoExceeded)
+    ∷ (writeAnswer 31 true is Listed)
+    ∷ (writeAnswer 32 true is Refused FifoExceeded)
+    ∷ (writeAnswer 32 false is Listed)
+    ∷ (writeAnswer 33 false is Refused FifoExceeded)
     -- K4: read: 0 gives 2; continuing 32 passes, 33 gives 3; ending 31 passes, 32 gives 3
     ∷ (readAs 0 true is Refused ZeroLengthInvalid)
     ∷ (readAs 0 false is Refused ZeroLengthInvalid)

@@ -15,7 +15,7 @@ use Rattle.refusal.specs.declared.Refusal.the-variants.{AddressInvalid, Version
 use Rattle.script.specs.declared.Verdict.{Verdict}
 use Rattle.script.specs.declared.Verdict.the-variants.{Accepted, Refused}
 use Rattle.script.specs.Records.{recordsOf}
-use Rattle.script.specs.Scripts.{Script, asks, refused, readTotal, most, bodyOf, fieldOf, scriptOf, answerOf}
+use Rattle.script.specs.Scripts.{Script, asks, refused, readTotal, most, bodyOf, fieldOf, scriptOf, toldOf}
 
 -- what a verdict says
 abbrev isAccepted : Verdict → Bool
@@ -30,7 +30,7 @@ abbrev refusalIn : Verdict → Refusal
 refusalIn (Accepted n) = Shape
 refusalIn (Refused r) = r
 
-pub refused-by : (x : Script) (r : Refusal) → Refused r ≡ answerOf x → x ≡ refused r
+pub refused-by : (x : Script) (r : Refusal) → Refused r ≡ toldOf x → x ≡ refused r
 refused-by (asks os) r e = absurd (false≢true (ap isAccepted e))
 refused-by (refused q) r e = ap refused (sym (ap refusalIn e))
 
@@ -39,16 +39,16 @@ abbrev pub operationsOf : Script → List Operation
 operationsOf (asks os) = os
 operationsOf (refused r) = []
 
-module _ (x : Script) (total : ℕ) (e : Accepted total ≡ answerOf x) where
+module _ (x : Script) (total : ℕ) (e : Accepted total ≡ toldOf x) where
   pub accepted-asks : x ≡ asks (operationsOf x)
   accepted-asks = go x e where
-    go : (y : Script) → Accepted total ≡ answerOf y → y ≡ asks (operationsOf y)
+    go : (y : Script) → Accepted total ≡ toldOf y → y ≡ asks (operationsOf y)
     go (asks os) q = refl
     go (refused r) q = absurd (false≢true (sym (ap isAccepted q)))
 
   pub accepted-total : total ≡ readTotal (operationsOf x)
   accepted-total = go x e where
-    go : (y : Script) → Accepted total ≡ answerOf y → total ≡ readTotal (operationsOf y)
+    go : (y : Script) → Accepted total ≡ toldOf y → total ≡ readTotal (operationsOf y)
     go (asks os) q = ap totalIn q
     go (refused r) q = absurd (false≢true (sym (ap isAccepted q)))
 

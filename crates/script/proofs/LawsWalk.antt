@@ -19,8 +19,8 @@ use Rattle.script.specs.declared.Record.the-variants.{Write, Read, Bad, 
 use Rattle.script.specs.declared.Step.{Step}
 use Rattle.script.specs.declared.Verdict.{Verdict}
 use Rattle.script.specs.declared.Verdict.the-variants.{Accepted, Refused}
-use Rattle.script.specs.Records.{bigEndian, operationsFrom, recordsOf, recordOf, sizeOf, stepOf}
-use Rattle.script.specs.Scripts.{asks, refused, readTotal, most, bodyOf, answerOf}
+use Rattle.script.specs.Records.{bigEndian, operationsFrom, recordsOf, recordOf, recordSize, recordAt}
+use Rattle.script.specs.Scripts.{asks, refused, readTotal, most, bodyOf, toldOf}
 
 -- bytes that are due are passed, if they are there
 pub due-there : (n : ℕ) (bytes : List ℕ) → n ≤ length bytes → operationsFrom n bytes ≡ recordsOf (drop n bytes)
@@ -75,7 +75,7 @@ records-by (high ∷ low ∷ []) = refl
 records-by (high ∷ low ∷ kind ∷ rest) = headed high low kind rest
 
 -- what stands in front is there
-size-there : (l : List ℕ) → sizeOf (recordOf l) ≤ length l
+size-there : (l : List ℕ) → recordSize (recordOf l) ≤ length l
 unfolding recordOf
 size-there [] = omega arith
 size-there (high ∷ []) = omega arith
@@ -85,7 +85,7 @@ size-there (high ∷ low ∷ kind ∷ rest) =
       by-kind :
           (writes reads fits : Bool)
           → leb (bigEndian high low) (length rest) ≡ fits
-          → sizeOf (cond writes (cond fits (Write (bigEndian high low)) Bad) (cond reads (Read (bigEndian high low)) Bad))
+          → recordSize (cond writes (cond fits (Write (bigEndian high low)) Bad) (cond reads (Read (bigEndian high low)) Bad))
           ≤ length (high ∷ low ∷ kind ∷ rest)
       by-kind true reads true e = omega (arith, leb-true (bigEndian high low) (length rest) e)
       by-kind true reads false e = omega arith
@@ -97,13 +97,13 @@ abbrev pub ahead : ℕ → Option (List Operation) → Verdict
 ahead t none = Refused Shape
 ahead t (some os) = cond (ltb most (t + readTotal os)) (Refused Size) (Accepted (t + readTotal os))
 
-pub ahead-all : (body : Option (List Operation)) → ahead 0 body ≡ answerOf (bodyOf body)
+pub ahead-all : (body : Option (List Operation)) → ahead 0 body ≡ toldOf (bodyOf body)
 unfolding bodyOf
 ahead-all none = refl
 ahead-all (some os) = rw zero-add (by-size (ltb most (readTotal os))) where
   by-size :
       (large : Bool)
-      → cond large (Refused Size) (Accepted (readTotal os)) ≡ answerOf (cond large (refused Size) (asks os))
+      → cond large (Refused Size) (Accepted (readTotal os)) ≡ toldOf (cond large (refused Size) (asks os))
   by-size true = refl
   by-size false = refl
 
@@ -122,23 +122,23 @@ ahead-read t n none = refl
 ahead-read t n (some os) = rw add-assoc
 
 -- a step of the walk
-module _ (s : List ℕ) (at : ℕ) (step : Step) (e : step ≡ stepOf s at) where
+module _ (s : List ℕ) (at : ℕ) (step : Step) (e : step ≡ recordAt s at) where
   found : (r : Record) → step .found ≡ r → recordOf (drop at s) ≡ r
-  unfolding stepOf
+  unfolding recordAt
   found r f = sym (ap (λ (st : Step). st .found) e) ∙ f
 
-  next : (r : Record) → step .found ≡ r → step .next ≡ at + sizeOf r
-  unfolding stepOf
-  next r f = ap (λ (st : Step). st .next) e ∙ ap (λ (q : Record). at + sizeOf q) (found r f)
+  next : (r : Record) → step .found ≡ r → step .next ≡ at + recordSize r
+  unfolding recordAt
+  next r f = ap (λ (st : Step). st .next) e ∙ ap (λ (q : Record). at + recordSize q) (found r f)
 
-  passed : (r : Record) → step .found ≡ r → drop (at + sizeOf r) s ≡ drop (step .next) s
+  passed : (r : Record) → step .found ≡ r → drop (at + recordSize r) s ≡ drop (step .next) s
   passed r f = rw (next r f)
 
   in-front : (r : Record) → step .found ≡ r → recordsOf (drop at s) ≡ inFront r (drop at s)
   in-front r f = records-by (drop at s) ∙ ap (λ (q : Record). inFront q (drop at s)) (found r f)
 
   pub walk-inside : at ≤ length s → step .next ≤ length s
-  unfolding stepOf
+  unfolding recordAt
   walk-inside h =
       let there = size-there (drop at s) in
       rw e (omega (arith, there, length-drop at s))
@@ -195,7 +195,7 @@ pub record Walked (s : List ℕ) (at t : ℕ) (step : Step) : Type 0 where
       → step .found ≡ Read n
       → (step .next ≡ at + 3) × (ahead t (recordsOf (drop at s)) ≡ ahead (t + n) (recordsOf (drop (step .next) s)))
 
-module _ (s : List ℕ) (at t : ℕ) (step : Step) (e : step ≡ stepOf s at) where
+module _ (s : List ℕ) (at t : ℕ) (step : Step) (e : step ≡ recordAt s at) where
   walk-end : step .found ≡ End → ahead t (recordsOf (drop at s)) ≡ cond (ltb most t) (Refused Size) (Accepted t)
   unfolding readTotal
   walk-end f = rw (records-end s at step e f, add-zero)

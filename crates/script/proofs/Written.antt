@@ -11,7 +11,7 @@ use borrow.Author.Tests.{le-ltb}
 use Rattle.bus.specs.Operations.{Operation, write, read}
 use Rattle.script.specs.Records.{bigEndian, operationsFrom, recordsOf}
 use Rattle.script.specs.Scripts.{asks, readTotal, most, bodyOf, fieldOf, scriptOf}
-use Rattle.script.specs.Written.{body, written}
+use Rattle.script.specs.Written.{body, scriptFor}
 use Rattle.script.proofs.LawsWalk.{due-there}
 use Rattle.script.proofs.Refusals.{judged-by-body}
 
@@ -32,11 +32,11 @@ records-written (write bytes ∷ os) =
 records-written (read n ∷ os) = rw (two-bytes n, records-written os)
 
 module _ (address : ℕ) (os : List Operation) where
-  pub read-written : address ≤ 127 → length (body os) ≤ most → readTotal os ≤ most → scriptOf address (written os) ≡ asks os
-  unfolding written bodyOf
+  pub read-written : address ≤ 127 → length (body os) ≤ most → readTotal os ≤ most → scriptOf address (scriptFor os) ≡ asks os
+  unfolding scriptFor bodyOf
   read-written known short few =
-      let field : fieldOf (written os) ≡ length (body os) = two-bytes (length (body os)) in
-      judged-by-body address (written os) known (omega arith) refl (rw field short) (rw field (omega arith))
+      let field : fieldOf (scriptFor os) ≡ length (body os) = two-bytes (length (body os)) in
+      judged-by-body address (scriptFor os) known (omega arith) refl (rw field short) (rw field (omega arith))
       ∙ rw (records-written os, le-ltb most (readTotal os) few)
 
 -- all are bytes
@@ -69,8 +69,8 @@ body-bytes (read n ∷ os) h short few =
     (two .0, (two .1, (omega arith, body-bytes os h (omega arith) (omega arith))))
 
 pub written-bytes :
-    (os : List Operation) → Sends os → length (body os) ≤ most → readTotal os ≤ most → Bytes (written os)
-unfolding written
+    (os : List Operation) → Sends os → length (body os) ≤ most → readTotal os ≤ most → Bytes (scriptFor os)
+unfolding scriptFor
 written-bytes os h short few =
     let two = two-are (length (body os)) short in
     (omega arith, (two .0, (two .1, body-bytes os h short few)))

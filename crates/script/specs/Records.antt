@@ -41,11 +41,11 @@ recordOf (high ∷ low ∷ kind ∷ rest) =
     (cond (eqb kind 1) (Read (bigEndian high low)) Bad)
 
 -- how many bytes it takes
-abbrev pub sizeOf : Record → ℕ
-sizeOf (Write n) = 3 + n
-sizeOf (Read n) = 3
-sizeOf Bad = 0
-sizeOf End = 0
+abbrev pub recordSize : Record → ℕ
+recordSize (Write n) = 3 + n
+recordSize (Read n) = 3
+recordSize Bad = 0
+recordSize End = 0
 
-unfoldable pub stepOf : List ℕ → ℕ → Step
-stepOf script at = record { found = recordOf (drop at script); next = at + sizeOf (recordOf (drop at script)) }
+unfoldable pub recordAt : List ℕ → ℕ → Step
+recordAt script at = record { found = recordOf (drop at script); next = at + recordSize (recordOf (drop at script)) }

@@ -44,6 +44,6 @@ scriptOf address script =
     (bodyOf (recordsOf (drop 3 script)))))))
 
 -- what a caller is told
-abbrev pub answerOf : Script → Verdict
-answerOf (asks os) = Accepted (readTotal os)
-answerOf (refused r) = Refused r
+abbrev pub toldOf : Script → Verdict
+toldOf (asks os) = Accepted (readTotal os)
+toldOf (refused r) = Refused r

@@ -14,5 +14,5 @@ body (write bytes ∷ os) = twoBytes (length bytes) ++ 0 ∷ bytes ++ body os
 body (read n ∷ os) = twoBytes n ++ 1 ∷ body os
 
 -- "Byte 0 is version 1; bytes 1 and 2, big-endian, the body's length."
-unfoldable pub written : List Operation → List ℕ
-written os = 1 ∷ twoBytes (length (body os)) ++ body os
+unfoldable pub scriptFor : List Operation → List ℕ
+scriptFor os = 1 ∷ twoBytes (length (body os)) ++ body os

@@ -2,8 +2,8 @@
 ghost use mathlib.Core.Path.{_≡_};
 ghost use Prim.Native.Nat.{ℕ, _+_, _*_, _≤_};
 ghost use lib.ListN.{length, drop};
-ghost use Rattle.script.specs.Records.{stepOf, recordsOf};
-ghost use Rattle.script.specs.Scripts.{answerOf, bodyOf, scriptOf};
+ghost use Rattle.script.specs.Records.{recordAt, recordsOf};
+ghost use Rattle.script.specs.Scripts.{toldOf, bodyOf, scriptOf};
 use refusal::Refusal;
 
 // What stands at a place of a script.
@@ -52,7 +52,7 @@ fn big_endian(high: u8, low: u8) -> u16
 
 // The cursor over records: from one place to the next.
 pub fn next_record(script: &[u8], at: usize) -> Step
-    ensures { λ r. ⌜ r ≡ stepOf (now (script .entry)) at ⌝ }
+    ensures { λ r. ⌜ r ≡ recordAt (now (script .entry)) at ⌝ }
 {
     if at >= script.len() {
         return Step {
@@ -95,7 +95,7 @@ pub fn next_record(script: &[u8], at: usize) -> Step
 // The body's records, up to the first bad one.
 fn read_body(script: &[u8]) -> Verdict
     requires { ⌜ (3 ≤ length (now script)) × (length (now script) ≤ 4099) ⌝ }
-    ensures { λ r. ⌜ r ≡ answerOf (bodyOf (recordsOf (drop 3 (now (script .entry))))) ⌝ }
+    ensures { λ r. ⌜ r ≡ toldOf (bodyOf (recordsOf (drop 3 (now (script .entry))))) ⌝ }
 {
     let mut at: usize = HEADER;
     let mut total: usize = 0;
@@ -123,7 +123,7 @@ fn read_body(script: &[u8]) -> Verdict
 
 // The refusals in document 01's order, up to the read total.
 pub fn read_script(address: u32, script: &[u8]) -> Verdict
-    ensures { λ r. ⌜ r ≡ answerOf (scriptOf address (now (script .entry))) ⌝ }
+    ensures { λ r. ⌜ r ≡ toldOf (scriptOf address (now (script .entry))) ⌝ }
 {
     if address > LAST_ADDRESS {
         return Verdict::Refused(Refusal::AddressInvalid);

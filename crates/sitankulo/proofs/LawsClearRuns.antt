@@ -16,7 +16,7 @@ use Rattle.bus_clear.specs.declared.run.Terms.{Terms}
 use Rattle.bus_clear.specs.declared.run.Told.{Told}
 use Rattle.bus_clear.specs.declared.run.Told.the-variants.{Ran, NoRoom}
 use Rattle.bus_clear.specs.declared.run.Report.{Report}
-use Rattle.bus_clear.specs.Runs.{Polled, allChanges, roomFor, reportOf, laid, noRoom}
+use Rattle.bus_clear.specs.Runs.{Polled, allChanges, runFits, runReport, laid, runRoomless}
 use Rattle.sitankulo.specs.declared.clear_layout.Decoded.{Decoded}
 use Rattle.sitankulo.specs.declared.clear_layout.Decoded.the-variants.{Held, Foreign}
 use Rattle.sitankulo.specs.ClearLayout.{clearBytes, decodedOf}
@@ -70,11 +70,11 @@ abbrev told : Report → Told
 told r = r .answer
 
 module _ (t : Terms) (p : Polled) (c : BusClear) (r : Report) where
-  no-room : (room : Bool) → r ≡ cond room (whole t p) (noRoom c) → r .answer ≡ NoRoom → room ≡ false
+  no-room : (room : Bool) → r ≡ cond room (whole t p) (runRoomless c) → r .answer ≡ NoRoom → room ≡ false
   no-room true e q = let x = ap told e in cc
   no-room false e q = refl
 
-  some-room : (room : Bool) (ending : Ending) → r ≡ cond room (whole t p) (noRoom c) → r .answer ≡ Ran ending → room ≡ true
+  some-room : (room : Bool) (ending : Ending) → r ≡ cond room (whole t p) (runRoomless c) → r .answer ≡ Ran ending → room ≡ true
   some-room true ending e q = refl
   some-room false ending e q = let x = ap told e in cc
 
@@ -84,14 +84,14 @@ module _ (t : Terms) (p : Polled) (clear changes report : List ℕ) where
       → RunLeft t (roomedRun t p changes report) 7 clear clear changes changes report report
   short-report h = let f = lt-leb 17 (length report) h in (simp f, simp f, simp f, simp f)
 
-  module _ (room : 17 ≤ length report) (c : BusClear) (ran : Report) (e : ran ≡ reportOf t c p (length changes))
+  module _ (room : 17 ≤ length report) (c : BusClear) (ran : Report) (e : ran ≡ runReport t c p (length changes))
       (changes' : List ℕ) (l : changes' ≡ laid t p changes) where
     pub short-changes :
         ran .answer ≡ NoRoom
         → RunLeft t (roomedRun t p changes report) 7 clear clear changes changes' report report
     short-changes q =
         let f = le-leb 17 (length report) room in
-        let g = no-room t p c ran (roomFor t p (length changes)) e q in
+        let g = no-room t p c ran (runFits t p (length changes)) e q in
         (simp (f, g), simp (f, g), l ∙ simp (f, g), simp (f, g))
 
     pub ran-through :
@@ -104,7 +104,7 @@ module _ (t : Terms) (p : Polled) (clear changes report : List ℕ) where
         → RunLeft t (roomedRun t p changes report) r clear clear' changes changes' report report'
     ran-through ending q r clear' report' x y z =
         let f = le-leb 17 (length report) room in
-        let g = some-room t p c ran (roomFor t p (length changes)) ending e q in
+        let g = some-room t p c ran (runFits t p (length changes)) ending e q in
         let w : ran ≡ whole t p = e ∙ simp g in
         let d : ending ≡ p .ending = let v = ap told w in cc in
         (x ∙ simp (f, g, d), y ∙ simp (f, g, w), l ∙ simp (f, g), z ∙ simp (f, g, w))

@@ -8,15 +8,15 @@ use Rattle.refusal.specs.declared.Refusal.{Refusal}
 use Rattle.refusal.specs.declared.Refusal.the-variants.{AddressInvalid, ZeroLengthInvalid, FifoExceeded, Version, Shape, Size, Room, OutOfTurn, ClockRange, ListRefused}
 use Rattle.refusal.specs.Numbers.{numberOf}
 use Rattle.script.specs.declared.Verdict.the-variants as verdict
-use Rattle.script.specs.Scripts.{Script, asks, refused, scriptOf, answerOf}
+use Rattle.script.specs.Scripts.{Script, asks, refused, scriptOf, toldOf}
 use Rattle.script.proofs.LawsAccepted.{refused-by, accepted-asks}
 use Rattle.sitankulo.specs.Transactions.{numberIn, succeeds, foreignNumber, tells}
 
 module _ (address : ℕ) (script : List ℕ) where
-  pub foreign-refused : (r : Refusal) → verdict.Refused r ≡ answerOf (scriptOf address script) → numberOf r ≡ foreignNumber (scriptOf address script)
+  pub foreign-refused : (r : Refusal) → verdict.Refused r ≡ toldOf (scriptOf address script) → numberOf r ≡ foreignNumber (scriptOf address script)
   foreign-refused r e = rw (refused-by (scriptOf address script) r e)
 
-  pub foreign-accepted : (total : ℕ) → verdict.Accepted total ≡ answerOf (scriptOf address script) → 5 ≡ foreignNumber (scriptOf address script)
+  pub foreign-accepted : (total : ℕ) → verdict.Accepted total ≡ toldOf (scriptOf address script) → 5 ≡ foreignNumber (scriptOf address script)
   foreign-accepted total e = rw (accepted-asks (scriptOf address script) total e)
 
 -- numbers of refusals

@@ -17,10 +17,10 @@ use Rattle.command.specs.declared.Meaning.the-variants.{Planned, Malformed}
 use Rattle.command.specs.Word.{meaningOf}
 use Rattle.controller.specs.declared.Phase.{Phase}
 use Rattle.controller.specs.declared.Phase.the-variants.{Idle, Started, Writing, Reading, ReadDone}
-use Rattle.controller.specs.Rules.{State, Turn, halts, goesOn, finishes, turn, mayStart, mayWrite, mayRead, mayStop, mayEnd, afterWrite}
+use Rattle.controller.specs.Rules.{State, Effect, halts, goesOn, finishes, effectOf, mayStart, mayWrite, mayRead, mayStop, mayEnd, afterWrite}
 use Rattle.controller.specs.Model.{Sensor, Run, stuck, done, put, get, obey, follow, meant, runFrom, Commands, runList, inPhase, eventsOf}
 use Rattle.controller.specs.declared.model.Report.{Report}
-use Rattle.controller.specs.Traces.{receivedBytes, runOf, roomFor, reportOf, Reported}
+use Rattle.controller.specs.Traces.{receivedBytes, runOf, traceFits, traceReport, Reported}
 use Rattle.wire.specs.Numbers.{wordsOf}
 use Rattle.sitankulo.specs.Modelling.{reportAnswer, runAsked, ModelLeft}
 use Rattle.sitankulo.proofs.LawsTests.{by-test, and-left, and-right}
@@ -54,7 +54,7 @@ left words s = words + length (s .fifo) + (32 - s .received)
 -- a command at a state, where what follows it is bounded so
 module _ (words : ℕ) (s : State) (k : Sensor) (on : State → Sensor → Run) (h : s .received ≤ 32)
     (follows : (t : State) (j : Sensor) → t .received ≤ 32 → Few (left words t) (32 - t .received) (on t j)) where
-  abbrev Bounded : Command → Turn → Type 0
+  abbrev Bounded : Command → Effect → Type 0
   Bounded c t = Few (left (suc words) s) (32 - s .received) (follow t (obey c s k) on done)
 
   received-few :
@@ -67,8 +67,8 @@ module _ (words : ℕ) (s : State) (k : Sensor) (on : State → Sensor → Run) 
       let more = get-few a n (k .sends) (k .refuses) (on t) (left words t) (32 - (s .received + n)) (λ j. follows t j fits) in
       (omega arith, omega arith)
 
-  command-few : (c : Command) → Bounded c (turn 32 c s)
-  unfolding turn obey eventsOf receivedBytes
+  command-few : (c : Command) → Bounded c (effectOf 32 c s)
+  unfolding effectOf obey eventsOf receivedBytes
   command-few Start =
       let t : State = record { phase = Started; fifo = s .fifo; received = s .received } in
       by-test (Bounded Start) (mayStart (s .phase)) (goesOn t) halts
@@ -99,7 +99,7 @@ module _ (words : ℕ) (s : State) (k : Sensor) (on : State → Sensor → Run) 
 
   word-few :
       (m : Meaning)
-      → Few (left (suc words) s) (32 - s .received) (meant m (λ c. follow (turn 32 c s) (obey c s k) on done))
+      → Few (left (suc words) s) (32 - s .received) (meant m (λ c. follow (effectOf 32 c s) (obey c s k) on done))
   unfolding eventsOf receivedBytes
   word-few Malformed = (omega arith, omega arith)
   word-few (Planned c) = command-few c
@@ -138,9 +138,9 @@ few-run words fifo phase sends refuses h =
     phase-few _
     (λ p. list-few (record { words = words; fifo = fifo }) p (record { sends = sends; refuses = refuses }) h) phase
 
-few-report : (r : Run) → Few 72 32 r → (a b : ℕ) → (reportOf r a b .received ≤ 32) × (reportOf r a b .events ≤ 72)
+few-report : (r : Run) → Few 72 32 r → (a b : ℕ) → (traceReport r a b .received ≤ 32) × (traceReport r a b .events ≤ 72)
 few-report r h a b =
-    by-test (λ (t : Report). (t .received ≤ 32) × (t .events ≤ 72)) (roomFor r a b) _ _
+    by-test (λ (t : Report). (t .received ≤ 32) × (t .events ≤ 72)) (traceFits r a b) _ _
     (λ e. (h .1, h .0)) (λ e. (omega arith, omega arith))
 
 -- what the call leaves

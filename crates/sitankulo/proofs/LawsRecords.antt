@@ -12,7 +12,7 @@ use borrow.Author.Tests.{le-leb, leb-true}
 use Rattle.transaction.specs.declared.Progress.{Progress}
 use Rattle.wire.specs.Numbers.{laid, timesBytes}
 use Rattle.sitankulo.proofs.LawsTests.{and-left}
-use Rattle.sitankulo.specs.Records.{timeIn, flagsOf, recordBytes, isRecord}
+use Rattle.sitankulo.specs.Records.{timeIn, recordFlags, recordBytes, isRecord}
 
 -- what is put into a part, as the whole
 pub part-put :
@@ -31,7 +31,7 @@ part-put l part vs at n h e =
 pub encoded :
     (p : Progress) (d after : List ℕ) (flags due fixed : ℕ)
     → 25 ≤ length d
-    → flags ≡ flagsOf p
+    → flags ≡ recordFlags p
     → due ≡ timeIn (p .due)
     → fixed ≡ timeIn (p .fixed)
     → after ≡ paste (set d 0 flags) 1 (timesBytes (p .place ∷ due ∷ fixed ∷ [])) 24

@@ -12,7 +12,7 @@ use lib.Dec.{leb, ltb, eqb}
 use borrow.Author.Tests.{leb-true, ltb-true, eqb-true}
 use Rattle.outcome.specs.Packed.{bitOf}
 use Rattle.wire.specs.Numbers.{fourBytes, timeBytes, wordAt, timeAt}
-use Rattle.sitankulo.specs.Records.{timed, timeIn, dueBy, weighed, flagsOf, recordBytes, progressBy, recordIn, standing, kept, agreeing, isRecord}
+use Rattle.sitankulo.specs.Records.{timed, timeIn, dueBy, weighed, recordFlags, recordBytes, progressBy, recordIn, standing, zeroUnless, agreeing, isRecord}
 use Rattle.sitankulo.proofs.LawsTests.{and-left, and-right}
 use Rattle.sitankulo.specs.Transactions.{renewed}
 
@@ -123,7 +123,7 @@ timed-back : (t : Bool) (x : ℕ) → timed (dueBy t x) ≡ t
 timed-back true x = refl
 timed-back false x = refl
 
-time-in-back : (t : Bool) (x : ℕ) → kept t x ≡ true → timeIn (dueBy t x) ≡ x
+time-in-back : (t : Bool) (x : ℕ) → zeroUnless t x ≡ true → timeIn (dueBy t x) ≡ x
 time-in-back true x e = refl
 time-in-back false x e = sym (eqb-true x 0 e)
 
@@ -154,13 +154,13 @@ module _ (state : List ℕ) (bytes : Bytes state) (is : isRecord state ≡ true)
   abbrev fixed : ℕ
   fixed = timeAt state 17
 
-  fields : (25 ≤ length state) × (flags < 32) × (kept (bitOf 8 flags) due ≡ true) × (kept (bitOf 16 flags) fixed ≡ true)
+  fields : (25 ≤ length state) × (flags < 32) × (zeroUnless (bitOf 8 flags) due ≡ true) × (zeroUnless (bitOf 16 flags) fixed ≡ true)
   unfolding isRecord agreeing
   fields =
       let whole = both (leb 25 (length state)) (agreeing flags due fixed && standing (recordIn state)) is in
       let agrees = both (agreeing flags due fixed) (standing (recordIn state)) (whole .1) .0 in
-      let known = both (ltb flags 32) (kept (bitOf 8 flags) due && kept (bitOf 16 flags) fixed) agrees in
-      let times = both (kept (bitOf 8 flags) due) (kept (bitOf 16 flags) fixed) (known .1) in
+      let known = both (ltb flags 32) (zeroUnless (bitOf 8 flags) due && zeroUnless (bitOf 16 flags) fixed) agrees in
+      let times = both (zeroUnless (bitOf 8 flags) due) (zeroUnless (bitOf 16 flags) fixed) (known .1) in
       (leb-true 25 (length state) (whole .0), ltb-true flags 32 (known .0), times .0, times .1)
 
   long : 25 ≤ length state
@@ -170,7 +170,7 @@ module _ (state : List ℕ) (bytes : Bytes state) (is : isRecord state ≡ true)
   parts =
       rw (take-add 1 24 state, one state (omega (arith, long)), take-add 8 16 (drop 1 state), drop-drop 8 1 state, take-add 8 8 (drop 9 state), drop-drop 8 9 state)
 
-  flags-back : flagsOf (recordIn state) ≡ flags
+  flags-back : recordFlags (recordIn state) ≡ flags
   unfolding progressBy
   flags-back = rw (timed-back (bitOf 8 flags) due, timed-back (bitOf 16 flags) fixed) (bits flags (fields .1))
 

@@ -13,7 +13,7 @@ use Rattle.outcome.specs.declared.Due.the-variants.{Never, At}
 use Rattle.transaction.specs.declared.Progress.{Progress}
 use Rattle.wire.specs.Numbers.{timeBytes, timeAt}
 use Rattle.wire.proofs.Numbers.{time-returns}
-use Rattle.sitankulo.specs.Records.{timeIn, flagsOf, recordBytes, progressBy, recordIn, standing, agreeing, isRecord}
+use Rattle.sitankulo.specs.Records.{timeIn, recordFlags, recordBytes, progressBy, recordIn, standing, agreeing, isRecord}
 use Rattle.sitankulo.specs.Transactions.{renewed}
 
 -- the numbers fit their eight bytes
@@ -23,8 +23,8 @@ Fits p = (p .place < 0x10000000000000000) × (timeIn (p .due) < 0x10000000000000
 -- the flags say what they were made of
 abbrev Said : Progress → Type 0
 Said p =
-    (agreeing (flagsOf p) (timeIn (p .due)) (timeIn (p .fixed)) ≡ true)
-    × (progressBy (flagsOf p) (p .place) (timeIn (p .due)) (timeIn (p .fixed)) ≡ p)
+    (agreeing (recordFlags p) (timeIn (p .due)) (timeIn (p .fixed)) ≡ true)
+    × (progressBy (recordFlags p) (p .place) (timeIn (p .due)) (timeIn (p .fixed)) ≡ p)
 
 abbrev whole : ℕ → Bool → Due → Bool → Bool → Due → Progress
 whole place outstanding due polled failed fixed =
@@ -63,15 +63,15 @@ module _ (state : List ℕ) (p : Progress) (fits : Fits p) (stands : standing p 
 
   place-read : timeAt (renewed state p) 1 ≡ p .place
   unfolding recordBytes
-  place-read = time-returns (flagsOf p ∷ []) (p .place) (due ++ (fixed ++ rest)) (fits .0)
+  place-read = time-returns (recordFlags p ∷ []) (p .place) (due ++ (fixed ++ rest)) (fits .0)
 
   due-read : timeAt (renewed state p) 9 ≡ timeIn (p .due)
   unfolding recordBytes
-  due-read = time-returns (flagsOf p ∷ place) (timeIn (p .due)) (fixed ++ rest) (fits .1)
+  due-read = time-returns (recordFlags p ∷ place) (timeIn (p .due)) (fixed ++ rest) (fits .1)
 
   fixed-read : timeAt (renewed state p) 17 ≡ timeIn (p .fixed)
   unfolding recordBytes
-  fixed-read = time-returns (flagsOf p ∷ (place ++ due)) (timeIn (p .fixed)) rest (fits .2)
+  fixed-read = time-returns (recordFlags p ∷ (place ++ due)) (timeIn (p .fixed)) rest (fits .2)
 
   long : leb 25 (length (renewed state p)) ≡ true
   unfolding recordBytes

@@ -25,7 +25,7 @@ use Rattle.controller.specs.declared.model.Ending.the-variants.{Stuck, Refused,
 use Rattle.controller.specs.declared.model.Answer.the-variants.{Ran}
 use Rattle.controller.specs.declared.model.Report.{Report}
 use Rattle.controller.specs.Model.{Run, eventsOf}
-use Rattle.controller.specs.Traces.{endingOf, leftOf, trafficBytes, receivedBytes, roomFor, noRoom}
+use Rattle.controller.specs.Traces.{endingOf, leftOf, trafficBytes, receivedBytes, traceFits, traceRoomless}
 use Rattle.sitankulo.specs.declared.clear_layout.Decoded.{Decoded}
 use Rattle.sitankulo.specs.declared.clear_layout.Decoded.the-variants.{Held, Foreign}
 use Rattle.sitankulo.specs.declared.clears.Telling.{Telling}
@@ -143,11 +143,11 @@ model-refusal-writes-nothing words run r received received' events events' left 
     let got = receivedBytes (eventsOf run) in
     let went = trafficBytes (eventsOf run) in
     by-room (got ++ drop (length got) received) (went ++ drop (length went) events) (whole words)
-    (roomFor run (length received) (length events)) (left .0) (left .1) (left .2)
+    (traceFits run (length received) (length events)) (left .0) (left .1) (left .2)
   where
     by-room :
         (x y : List ℕ) (t f : Bool)
-        → r ≡ cond t (reportAnswer (cond f (told run) noRoom)) 14
+        → r ≡ cond t (reportAnswer (cond f (told run) traceRoomless)) 14
         → received' ≡ cond t (cond f x received) received
         → events' ≡ cond t (cond f y events) events
         → (received' ≡ received) × (events' ≡ events)

@@ -25,8 +25,8 @@ abbrev pub listRefused : ℕ
 listRefused = numberOf ListRefused
 
 -- answers that are no refusals
-abbrev pub none : ℕ
-none = 254
+abbrev pub noneLeft : ℕ
+noneLeft = 254
 
 abbrev pub pending : ℕ
 pending = 255

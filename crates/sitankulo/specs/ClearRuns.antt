@@ -11,7 +11,7 @@ use Rattle.bus_clear.specs.declared.run.Ending.{Ending}
 use Rattle.bus_clear.specs.declared.run.Ending.the-variants.{Ready, GivenUp, Spent, TapeOver, ClockRange}
 use Rattle.bus_clear.specs.declared.run.Terms.{Terms}
 use Rattle.bus_clear.specs.Pins.{changeByte}
-use Rattle.bus_clear.specs.Runs.{Polled, polledOver, allChanges, roomFor}
+use Rattle.bus_clear.specs.Runs.{Polled, polledOver, allChanges, runFits}
 use Rattle.sitankulo.specs.declared.clear_layout.Decoded.{Decoded}
 use Rattle.sitankulo.specs.declared.clear_layout.Decoded.the-variants.{Held, Foreign}
 use Rattle.sitankulo.specs.Answers.{shape, room, yes}
@@ -44,7 +44,7 @@ pub data Running : Type 0 where
 -- "or 5 (clear), 7"
 abbrev pub roomedRun : Terms → Polled → List ℕ → List ℕ → Running
 roomedRun t p changes report =
-    cond (leb reportSize (length report) && roomFor t p (length changes)) (runs p) (refuses room)
+    cond (leb reportSize (length report) && runFits t p (length changes)) (runs p) (refuses room)
 
 abbrev pub runCall : Decoded → Terms → List ℕ → List ℕ → List ℕ → List ℕ → Running
 runCall Foreign t clocks levels changes report = refuses shape

@@ -12,7 +12,7 @@ use Rattle.controller.specs.declared.model.Answer.{Answer}
 use Rattle.controller.specs.declared.model.Answer.the-variants.{Ran, NoRoom}
 use Rattle.controller.specs.declared.model.Report.{Report}
 use Rattle.controller.specs.Model.{Run, phaseNumber, eventsOf}
-use Rattle.controller.specs.Traces.{runOf, trafficBytes, receivedBytes, roomFor, reportOf, laid}
+use Rattle.controller.specs.Traces.{runOf, trafficBytes, receivedBytes, traceFits, traceReport, laid}
 use Rattle.sitankulo.specs.Answers.{packed, room, listRefused}
 
 -- "0 with the phase that the list leaves as detail; SITANKULO_STUCK; SITANKULO_UNANSWERED"
@@ -35,16 +35,16 @@ whole words = eqb (length words) 32
 
 abbrev pub runAnswer : List ℕ → Run → List ℕ → List ℕ → ℕ
 runAnswer words run received events =
-    cond (whole words) (reportAnswer (reportOf run (length received) (length events))) listRefused
+    cond (whole words) (reportAnswer (traceReport run (length received) (length events))) listRefused
 
 -- lent memory at exit
 abbrev pub receivedAfter : List ℕ → Run → List ℕ → List ℕ → List ℕ
 receivedAfter words run received events =
-    cond (whole words) (laid (roomFor run (length received) (length events)) (receivedBytes (eventsOf run)) received) received
+    cond (whole words) (laid (traceFits run (length received) (length events)) (receivedBytes (eventsOf run)) received) received
 
 abbrev pub eventsAfter : List ℕ → Run → List ℕ → List ℕ → List ℕ
 eventsAfter words run received events =
-    cond (whole words) (laid (roomFor run (length received) (length events)) (trafficBytes (eventsOf run)) events) events
+    cond (whole words) (laid (traceFits run (length received) (length events)) (trafficBytes (eventsOf run)) events) events
 
 -- the run that is asked for
 unfoldable pub runAsked : List ℕ → List ℕ → ℕ → List ℕ → ℕ → Run

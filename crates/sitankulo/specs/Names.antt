@@ -4,7 +4,7 @@ use mathlib.Core.Bool.{cond}
 use mathlib.Core.List.{List, [], _∷_}
 use lib.ListN.{length}
 use lib.Dec.{leb, eqb}
-use Rattle.sitankulo.specs.Answers.{packed, room, none, written}
+use Rattle.sitankulo.specs.Answers.{packed, room, noneLeft, written}
 
 -- "1 AddressInvalid" to "14 ListRefused"; nothing for another number
 unfoldable pub nameOf : ℕ → List ℕ
@@ -42,7 +42,7 @@ nameOf number =
 -- "0 with its length as detail; SITANKULO_NONE for another number; or 7"
 abbrev pub toldAnswer : List ℕ → ℕ → ℕ
 toldAnswer name textRoom =
-    cond (eqb (length name) 0) none (cond (leb (length name) textRoom) (packed 0 (length name)) room)
+    cond (eqb (length name) 0) noneLeft (cond (leb (length name) textRoom) (packed 0 (length name)) room)
 
 abbrev pub toldText : List ℕ → List ℕ → List ℕ
 toldText name text = written (leb (length name) (length text)) name (length name) text

@@ -28,12 +28,12 @@ dueBy there time = cond there (At time) Never
 abbrev pub weighed : Bool → ℕ → ℕ
 weighed flag weight = cond flag weight 0
 
-abbrev pub flagsOf : Progress → ℕ
-flagsOf p =
+abbrev pub recordFlags : Progress → ℕ
+recordFlags p =
     weighed (p .outstanding) 1 + weighed (p .polled) 2 + weighed (p .failed) 4 + weighed (timed (p .due)) 8 + weighed (timed (p .fixed)) 16
 
 unfoldable pub recordBytes : Progress → List ℕ
-recordBytes p = flagsOf p ∷ (timeBytes (p .place) ++ (timeBytes (timeIn (p .due)) ++ timeBytes (timeIn (p .fixed))))
+recordBytes p = recordFlags p ∷ (timeBytes (p .place) ++ (timeBytes (timeIn (p .due)) ++ timeBytes (timeIn (p .fixed))))
 
 -- READ
 unfoldable pub progressBy : ℕ → ℕ → ℕ → ℕ → Progress
@@ -55,11 +55,11 @@ abbrev pub standing : Progress → Bool
 standing p = cond (p .outstanding) (not (p .failed)) (not (p .polled) && not (timed (p .due)))
 
 -- no flag is unknown, and a time that there is not is 0
-abbrev pub kept : Bool → ℕ → Bool
-kept there time = there || eqb time 0
+abbrev pub zeroUnless : Bool → ℕ → Bool
+zeroUnless there time = there || eqb time 0
 
 unfoldable pub agreeing : ℕ → ℕ → ℕ → Bool
-agreeing flags due fixed = ltb flags 32 && (kept (bitOf 8 flags) due && kept (bitOf 16 flags) fixed)
+agreeing flags due fixed = ltb flags 32 && (zeroUnless (bitOf 8 flags) due && zeroUnless (bitOf 16 flags) fixed)
 
 -- bytes that a call left; what lies beyond the 25 does not matter
 unfoldable pub isRecord : List ℕ → Bool

@@ -6,7 +6,7 @@ ghost use lib.ListN.{length};
 ghost use lib.Seq.{paste};
 ghost use Rattle.outcome.specs.declared.Due.the-variants.{Never};
 ghost use Rattle.transaction.specs.Calls.{accepted};
-ghost use Rattle.sitankulo.specs.Records.{timed, timeIn, dueBy, weighed, flagsOf, recordBytes, progressBy, recordIn, standing, kept, agreeing, isRecord};
+ghost use Rattle.sitankulo.specs.Records.{timed, timeIn, dueBy, weighed, recordFlags, recordBytes, progressBy, recordIn, standing, zeroUnless, agreeing, isRecord};
 use outcome::Due;
 use transaction::Progress;
 
@@ -61,7 +61,7 @@ fn weigh(flag: bool, weight: u8) -> u8
 }
 
 fn flags_of(p: Progress) -> u8
-    ensures { λ r. ⌜ r ≡ flagsOf p ⌝ }
+    ensures { λ r. ⌜ r ≡ recordFlags p ⌝ }
 {
     let due = p.due;
     let fixed = p.fixed;
@@ -127,7 +127,7 @@ fn is_standing(p: Progress) -> bool
 
 // A time that there is not is 0.
 fn is_kept(there: bool, time: u64) -> bool
-    ensures { λ r. ⌜ r ≡ kept there time ⌝ }
+    ensures { λ r. ⌜ r ≡ zeroUnless there time ⌝ }
 {
     if there {
         return true;

@@ -10,7 +10,7 @@ use lib.ListN.{length, take, drop}
 use Rattle.bus.specs.Operations.{Operation, write, read, kept}
 use Rattle.script.specs.declared.Step.{Step}
 use Rattle.script.specs.declared.Record.the-variants.{Write, Read, Bad, End}
-use Rattle.script.specs.Records.{recordsOf, stepOf}
+use Rattle.script.specs.Records.{recordsOf, recordAt}
 use Rattle.script.proofs.LawsWalk.{end-next, records-end, records-bad, records-write, records-read, write-next, read-next, walk-inside}
 use Rattle.transaction.specs.declared.walk.Kept.{Kept}
 use Rattle.transaction.specs.Walk.{isSome, Readable, orNone, keptAt, viewed, Behind}
@@ -32,7 +32,7 @@ module _ (o : Operation) where
   more (some os) h = refl
 
 -- a step of the walk that finds a record
-module _ (s : List ℕ) (at : ℕ) (step : Step) (e : step ≡ stepOf s at) (good : Readable (drop at s)) where
+module _ (s : List ℕ) (at : ℕ) (step : Step) (e : step ≡ recordAt s at) (good : Readable (drop at s)) where
   kept-end : step .found ≡ End → keptAt s at ≡ []
   unfolding kept
   kept-end f = rw (records-end s at step e f)
@@ -104,7 +104,7 @@ pub record Seen (s : List ℕ) (from at : ℕ) (step : Step) : Type 0 where
       → Answered s from (record { there = true; reads = true; length = n; next = step .next })
   pub passes : (n : ℕ) → step .found ≡ Read n → n ≤ 0 → (at < step .next) × Stands s from (step .next)
 
-module _ (s : List ℕ) (from at : ℕ) (st : Stands s from at) (step : Step) (e : step ≡ stepOf s at) where
+module _ (s : List ℕ) (from at : ℕ) (st : Stands s from at) (step : Step) (e : step ≡ recordAt s at) where
   at-end :
       step .found ≡ End
       → (r : Kept)

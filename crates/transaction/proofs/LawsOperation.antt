@@ -14,7 +14,7 @@ use Rattle.bus.specs.Operations.{Operation, write, read}
 use Rattle.chunks.specs.Pieces.{pieceOf, pieces, countOf, startOf}
 use Rattle.chunks.proofs.Laws.{pieces-last, piece-most, start-most}
 use Rattle.chunks.proofs.Pieces.{pieces-sum, pieces-count, pieces-start, pieces-at}
-use Rattle.turns.specs.Steps.{Step, writeStep, readStep, Before, starts, none, writeSteps}
+use Rattle.turns.specs.Steps.{Step, writeStep, readStep, Before, starts, isEmpty, writeSteps}
 use Rattle.turns.specs.Turns.{withList, turn, turnAt}
 use Rattle.turns.proofs.LawsTurns.{write-turn, read-turn, pieces-some, write-listed, read-listed, write-count, read-count}
 use Rattle.transaction.specs.declared.walk.Kept.{Kept}

@@ -9,7 +9,7 @@ use lib.ListN.{length, take, drop}
 use Rattle.bus.specs.Operations.{Operation, write, read}
 use Rattle.chunks.specs.Pieces.{pieces}
 use Rattle.chunks.proofs.Pieces.{pieces-sum}
-use Rattle.turns.specs.Steps.{Step, Before, nothing, after, starts, none, readFollows, stepsFrom}
+use Rattle.turns.specs.Steps.{Step, Before, nothing, after, starts, isEmpty, readFollows, stepsFrom}
 use Rattle.turns.specs.Turns.{withList, Turn, turnAt}
 use Rattle.turns.proofs.LawsTurns.{allReceived, with-list-append, with-list-received, turn-here, turn-past, write-received, read-received}
 use Rattle.transaction.specs.declared.walk.Kept.{Kept}
@@ -38,7 +38,7 @@ cut :
     (b : Before) (reads : Bool) (n : ℕ) (bytes : List ℕ) (ks : List Operation)
     → stepsFrom 31 b (cond reads (read n) (write bytes) ∷ ks)
     ≡ stepsFor (cond reads (read n) (write bytes))
-    (record { start = starts b (directionOf reads); stop = none ks; continues = readFollows ks })
+    (record { start = starts b (directionOf reads); stop = isEmpty ks; continues = readFollows ks })
     ++ stepsFrom 31 (after (directionOf reads)) ks
 unfolding stepsFrom stepsFor
 cut b true n bytes ks = refl
@@ -53,9 +53,9 @@ taken true n bytes flags =
 taken false n bytes flags = write-received (pieces 31 (length bytes)) bytes (flags .start) (flags .stop)
 
 module _ (s : List ℕ) where
-  last : (k : Kept) → none (viewed s k) ≡ not (k .there)
+  last : (k : Kept) → isEmpty (viewed s k) ≡ not (k .there)
   last k = go (k .there) where
-    go : (t : Bool) → none (cond t (operationAt s k ∷ keptAt s (k .next)) []) ≡ not t
+    go : (t : Bool) → isEmpty (cond t (operationAt s k ∷ keptAt s (k .next)) []) ≡ not t
     go true = refl
     go false = refl
 

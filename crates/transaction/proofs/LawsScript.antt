@@ -13,7 +13,7 @@ use Rattle.refusal.specs.declared.Refusal.the-variants.{Room}
 use Rattle.outcome.specs.declared.Snapshot.{Snapshot}
 use Rattle.script.specs.declared.Verdict.the-variants as verdict
 use Rattle.script.specs.Records.{recordsOf}
-use Rattle.script.specs.Scripts.{asks, refused, readTotal, scriptOf, answerOf}
+use Rattle.script.specs.Scripts.{asks, refused, readTotal, scriptOf, toldOf}
 use Rattle.script.proofs.LawsAccepted.{operationsOf, refused-by, accepted-asks, accepted-total, accepted-facts}
 use Rattle.turns.specs.Turns.{turnsOf, turnAt}
 use Rattle.transaction.specs.declared.Settings.{Settings}
@@ -28,7 +28,7 @@ use Rattle.transaction.specs.Calls.{acceptedBy, beginOf, withoutList, tu
 
 module _ (address : ℕ) (s : List ℕ) where
   -- a script that is refused
-  module _ (r : Refusal) (e : verdict.Refused r ≡ answerOf (scriptOf address s)) where
+  module _ (r : Refusal) (e : verdict.Refused r ≡ toldOf (scriptOf address s)) where
     is-refused : scriptOf address s ≡ refused r
     is-refused = refused-by (scriptOf address s) r e
 
@@ -51,7 +51,7 @@ module _ (address : ℕ) (s : List ℕ) where
     complete-refused p snapshot received buffer c q = rw (q, is-refused) (refl, refl)
 
   -- and one that is accepted
-  module _ (total : ℕ) (e : verdict.Accepted total ≡ answerOf (scriptOf address s)) where
+  module _ (total : ℕ) (e : verdict.Accepted total ≡ toldOf (scriptOf address s)) where
     os : List Operation
     os = operationsOf (scriptOf address s)
 

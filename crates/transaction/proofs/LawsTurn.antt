@@ -19,7 +19,7 @@ use Rattle.outcome.specs.declared.Snapshot.{Snapshot}
 use Rattle.outcome.specs.Outcomes.{classifyOf, receivedOf}
 use Rattle.script.specs.Records.{recordsOf}
 use Rattle.script.specs.Scripts.{readTotal}
-use Rattle.turns.specs.Steps.{Step, writeStep, readStep, Before, nothing, after, starts, none, readFollows, writeSteps, readSteps, stepsFrom}
+use Rattle.turns.specs.Steps.{Step, writeStep, readStep, Before, nothing, after, starts, isEmpty, readFollows, writeSteps, readSteps, stepsFrom}
 use Rattle.turns.specs.Turns.{Turn, turn, receives, withList, turnsOf}
 use Rattle.turns.proofs.LawsTurns.{allReceived, with-list-received, received-append, write-received, read-received, turn-received}
 use Rattle.transaction.specs.declared.walk.Found.{Found}
@@ -39,16 +39,16 @@ pub received-all : (b : Before) (os : List Operation) → allReceived (stepsFrom
 unfolding allReceived stepsFrom kept readTotal
 received-all b [] = refl
 received-all b (write bytes ∷ os) =
-    let steps = writeSteps (pieces 31 (length bytes)) bytes (starts b toSensor) (none (kept os)) in
+    let steps = writeSteps (pieces 31 (length bytes)) bytes (starts b toSensor) (isEmpty (kept os)) in
     received-append steps (stepsFrom 31 (after toSensor) (kept os))
-    ∙ rw (write-received (pieces 31 (length bytes)) bytes (starts b toSensor) (none (kept os)), zero-add)
+    ∙ rw (write-received (pieces 31 (length bytes)) bytes (starts b toSensor) (isEmpty (kept os)), zero-add)
     (received-all (after toSensor) os)
 received-all b (read zero ∷ os) = rw zero-add (received-all b os)
 received-all b (read (suc n) ∷ os) =
-    let steps = readSteps (pieces 31 (suc n)) (starts b fromSensor) (none (kept os)) (readFollows (kept os)) in
+    let steps = readSteps (pieces 31 (suc n)) (starts b fromSensor) (isEmpty (kept os)) (readFollows (kept os)) in
     received-append steps (stepsFrom 31 (after fromSensor) (kept os))
     ∙ rw (
-      read-received (pieces 31 (suc n)) (starts b fromSensor) (none (kept os)) (readFollows (kept os)),
+      read-received (pieces 31 (suc n)) (starts b fromSensor) (isEmpty (kept os)) (readFollows (kept os)),
       pieces-sum 31 (omega arith) (suc n),
     )
     (ap (λ (m : ℕ). suc n + m) (received-all (after fromSensor) os))

@@ -12,7 +12,7 @@ use lib.Seq.{drop-drop}
 use borrow.Author.Tests.{ne-eqb, eqb-true}
 use Rattle.chunks.specs.Pieces.{pieces, sum}
 use Rattle.chunks.proofs.Pieces.{Each, Sized, pieces-bounds}
-use Rattle.turns.specs.Steps.{Step, writeStep, readStep, none, writeSteps, readSteps}
+use Rattle.turns.specs.Steps.{Step, writeStep, readStep, isEmpty, writeSteps, readSteps}
 use Rattle.turns.specs.Turns.{listless, withList, receives, Turn, turn, over, beyond, turnAt}
 
 -- how many bytes steps receive
@@ -55,7 +55,7 @@ and-false : (b : Bool) → (b && false) ≡ false
 and-false true = refl
 and-false false = refl
 
-last-one : (ns : List ℕ) → none ns ≡ eqb 1 (suc (length ns))
+last-one : (ns : List ℕ) → isEmpty ns ≡ eqb 1 (suc (length ns))
 last-one [] = refl
 last-one (n ∷ ns) = sym (ne-eqb 1 (suc (suc (length ns))) (λ e. absurd (omega arith)))
 
@@ -109,7 +109,7 @@ write-listed [] bytes start stop h e = refl
 write-listed (p ∷ ns) [] start stop h e = absurd (omega (arith, h .0))
 write-listed (zero ∷ ns) (b ∷ bytes) start stop h e = absurd (omega (arith, h .0))
 write-listed (suc p ∷ ns) (b ∷ bytes) start stop h e =
-    ap (λ (l : List Step). writeStep (b ∷ take p bytes) start (none ns && stop) ∷ l)
+    ap (λ (l : List Step). writeStep (b ∷ take p bytes) start (isEmpty ns && stop) ∷ l)
     (write-listed ns (drop p bytes) false stop (h .1) (omega (arith, length-drop p bytes)))
 
 pub read-listed :
@@ -120,7 +120,7 @@ unfolding withList readSteps
 read-listed [] start stop continues h = refl
 read-listed (p ∷ ns) start stop continues h =
     rw (ne-eqb p 0 (λ e. absurd (omega (arith, h .0))))
-    (ap (λ (l : List Step). readStep p start (none ns && stop) (not (none ns) || continues) ∷ l)
+    (ap (λ (l : List Step). readStep p start (isEmpty ns && stop) (not (isEmpty ns) || continues) ∷ l)
     (read-listed ns false stop continues (h .1)))
 
 pub write-received : (ns bytes : List ℕ) (start stop : Bool) → allReceived (writeSteps ns bytes start stop) ≡ 0
@@ -148,7 +148,7 @@ pub with-list-received : (ss : List Step) → allReceived (withList ss) ≡ allR
 unfolding withList allReceived
 with-list-received [] = refl
 with-list-received (writeStep bytes start stop ∷ ss) =
-    go (none bytes && (not start && not stop)) (with-list-received ss)
+    go (isEmpty bytes && (not start && not stop)) (with-list-received ss)
   where
     go :
         (t : Bool)

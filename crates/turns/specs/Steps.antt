@@ -26,9 +26,9 @@ starts (after toSensor) fromSensor = true
 starts (after fromSensor) toSensor = true
 starts (after fromSensor) fromSensor = false
 
-abbrev pub none : {A : Type 0} → List A → Bool
-none [] = true
-none (a ∷ l) = false
+abbrev pub isEmpty : {A : Type 0} → List A → Bool
+isEmpty [] = true
+isEmpty (a ∷ l) = false
 
 -- "a read continues if a read follows"
 abbrev pub readFollows : List Operation → Bool
@@ -39,18 +39,18 @@ readFollows (read n ∷ os) = true
 -- "Only the first piece starts, only the last stops"
 unfoldable pub writeSteps : List ℕ → List ℕ → Bool → Bool → List Step
 writeSteps [] bytes start stop = []
-writeSteps (n ∷ ns) bytes start stop = writeStep (take n bytes) start (none ns && stop) ∷ writeSteps ns (drop n bytes) false stop
+writeSteps (n ∷ ns) bytes start stop = writeStep (take n bytes) start (isEmpty ns && stop) ∷ writeSteps ns (drop n bytes) false stop
 
 -- "a read piece continues unless last of an operation that doesn't"
 unfoldable pub readSteps : List ℕ → Bool → Bool → Bool → List Step
 readSteps [] start stop continues = []
 readSteps (n ∷ ns) start stop continues =
-    readStep n start (none ns && stop) (not (none ns) || continues) ∷ readSteps ns false stop continues
+    readStep n start (isEmpty ns && stop) (not (isEmpty ns) || continues) ∷ readSteps ns false stop continues
 
 -- an operation "stops if it is last"
 unfoldable pub stepsFrom : ℕ → Before → List Operation → List Step
 stepsFrom c before [] = []
 stepsFrom c before (write bytes ∷ os) =
-    writeSteps (pieces c (length bytes)) bytes (starts before toSensor) (none os) ++ stepsFrom c (after toSensor) os
+    writeSteps (pieces c (length bytes)) bytes (starts before toSensor) (isEmpty os) ++ stepsFrom c (after toSensor) os
 stepsFrom c before (read n ∷ os) =
-    readSteps (pieces c n) (starts before fromSensor) (none os) (readFollows os) ++ stepsFrom c (after fromSensor) os
+    readSteps (pieces c n) (starts before fromSensor) (isEmpty os) (readFollows os) ++ stepsFrom c (after fromSensor) os

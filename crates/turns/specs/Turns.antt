@@ -5,11 +5,11 @@ use mathlib.Core.List.{List, [], _∷_}
 use lib.ListN.{length}
 use lib.Dec.{eqb}
 use Rattle.bus.specs.Operations.{Operation, kept}
-use Rattle.turns.specs.Steps.{Step, writeStep, readStep, nothing, none, stepsFrom}
+use Rattle.turns.specs.Steps.{Step, writeStep, readStep, nothing, isEmpty, stepsFrom}
 
 -- "An empty write with neither start nor stop, and any empty read, give no list and succeed"
 abbrev pub listless : Step → Bool
-listless (writeStep bytes start stop) = none bytes && (not start && not stop)
+listless (writeStep bytes start stop) = isEmpty bytes && (not start && not stop)
 listless (readStep n start stop continues) = eqb n 0
 
 unfoldable pub withList : List Step → List Step

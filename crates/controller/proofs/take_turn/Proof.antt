@@ -1,5 +1,5 @@
 -- `controller::take_turn` meets its contract: each command has its own rule. Assumes nothing.
-use Rattle.controller.specs.Rules.{turn}
+use Rattle.controller.specs.Rules.{effectOf}
 use borrow.Author.Needs.{needs}
 use Rattle.controller.proofs.take_turn.Statement.{statement}
 use Rattle.controller.proofs.take_turn.Tie as tie
@@ -50,27 +50,27 @@ close-requires-2 : tie.Need-close-requires-2
 close-requires-2 c κs = search needs
 
 returns : tie.Need-returns
-unfolding turn
+unfolding effectOf
 returns c = rw (c .before .enum-told .given .1) (c .start .ensures)
 
 returns-2 : tie.Need-returns-2
-unfolding turn
+unfolding effectOf
 returns-2 c = rw (c .before .before .command .given .1) (c .write .ensures)
 
 returns-3 : tie.Need-returns-3
-unfolding turn
+unfolding effectOf
 returns-3 c = rw (c .before .before .command2 .given .1) (c .receive .ensures)
 
 returns-4 : tie.Need-returns-4
-unfolding turn
+unfolding effectOf
 returns-4 c = rw (c .before .enum-told2 .given .1) (c .receive2 .ensures)
 
 returns-5 : tie.Need-returns-5
-unfolding turn
+unfolding effectOf
 returns-5 c = rw (c .before .before .enum-told3 .given .1, ← c .before .may-stop .ensures) (c .close .ensures)
 
 returns-6 : tie.Need-returns-6
-unfolding turn
+unfolding effectOf
 returns-6 c = rw (c .before .before .enum-told4 .given .1, ← c .before .may-end .ensures) (c .close2 .ensures)
 
 pub take-turn-spec : {M : Type 1} → statement M

@@ -7,7 +7,7 @@ use lib.ListN.{length, drop}
 use borrow.Author.Needs.{needs}
 use borrow.Author.Tests.{lt-ltb, le-ltb}
 use Rattle.script.specs.Records.{recordsOf}
-use Rattle.script.specs.Scripts.{bodyOf, answerOf}
+use Rattle.script.specs.Scripts.{bodyOf, toldOf}
 use Rattle.script.proofs.LawsWalk.{ahead, ahead-all, Walked, walked}
 use Rattle.script.proofs.read_body.Statement.{statement}
 use Rattle.script.proofs.read_body.Tie as tie
@@ -32,7 +32,7 @@ here c =
     let l = c .before .loop in
     walked (c .before .before .before .args .script .now) (l .at) (l .total) (c .next-record .result) (c .next-record .ensures)
 
-whole : (c : tie.After-next-record Inv-loop μ-loop) → ahead (c .before .loop .total) (recordsOf (drop (c .before .loop .at) (c .before .before .before .args .script .now))) ≡ answerOf (bodyOf (recordsOf (drop 3 (c .before .before .before .args .script .now))))
+whole : (c : tie.After-next-record Inv-loop μ-loop) → ahead (c .before .loop .total) (recordsOf (drop (c .before .loop .at) (c .before .before .before .args .script .now))) ≡ toldOf (bodyOf (recordsOf (drop 3 (c .before .before .before .args .script .now))))
 whole c = c .before .loop .inv .2 ∙ ahead-all (recordsOf (drop 3 (c .before .before .before .args .script .now)))
 
 enum-told : tie.Need-enum-told Inv-loop μ-loop

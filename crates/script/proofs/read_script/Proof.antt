@@ -1,7 +1,7 @@
 -- `script::read_script` meets its contract: the refusals in their order. Assumes nothing.
 use native.Mathlib.Omega.{arith}
 use mathlib.Core.Path.{sym, _∙_, ap}
-use Rattle.script.specs.Scripts.{answerOf}
+use Rattle.script.specs.Scripts.{toldOf}
 use Rattle.script.proofs.Refusals.{refused-address, refused-short, refused-version, refused-field, refused-length, judged-by-body}
 use borrow.Author.Needs.{needs}
 use Rattle.script.proofs.read_script.Statement.{statement}
@@ -64,7 +64,7 @@ returns-6 c =
     let within = rw field at (c .before .before .if4 .left) in
     let same = rw field at (c .before .if5 .left) in
     let judged = judged-by-body (args .address) (args .script .now) (omega arith) (omega arith) (c .before .before .before .before .before .before .if3 .left) within same in
-    c .read-body .ensures ∙ ap answerOf (sym judged)
+    c .read-body .ensures ∙ ap toldOf (sym judged)
 
 pub read-script-spec : {M : Type 1} → statement M
 read-script-spec =

@@ -10,7 +10,7 @@ use borrow.Author.Needs.{needs}
 use Rattle.command.specs.declared.Meaning.the-variants.{Planned}
 use Rattle.command.specs.Word.{meaningOf}
 use Rattle.controller.specs.declared.Phase.{Phase}
-use Rattle.controller.specs.Rules.{turn}
+use Rattle.controller.specs.Rules.{effectOf}
 use Rattle.controller.specs.Places.{stateAt, Inside}
 use Rattle.controller.specs.Model.{runFrom, runList, done}
 use Rattle.controller.specs.Verdicts.{willing, verdictOf}
@@ -31,7 +31,7 @@ abbrev μ-loop : tie.MeasureT-loop
 returns : tie.Need-returns Inv-loop μ-loop
 returns c = sym (fifo-exceeded 32 _ (c .before .before .args .phase) (c .if1 .taken))
 
--- in a turn: the verdict on the word at hand and those after it
+-- by the effect: the verdict on the word at hand and those after it
 here :
     (c : tie.In-loop Inv-loop μ-loop)
     → verdictOf
