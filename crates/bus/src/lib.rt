@@ -1,1 +1,2 @@
 // Only definitions, in specs/, which the other crates' contracts and theorems cite.
+#![tactic(auto)]

@@ -1,4 +1,6 @@
 // The bus clear by pins: a sensor that holds SDA low is clocked until it lets go, at most nine times, and then sees a STOP.
+#![tactic(auto)]
+
 ghost use Rattle.std.specs.Prelude.{◌≡◌};
 ghost use Rattle.bus_clear.specs.Pins.{listed_with};
 ghost use Rattle.bus_clear.specs.Clear.{fresh_of, acts, clocks, step_of};
@@ -6,7 +8,7 @@ ghost use Rattle.bus_clear.specs.Clear.{fresh_of, acts, clocks, step_of};
 pub mod run;
 
 // The pin changes of a poll, in order; high is released.
-#[derive(Drop)]
+#[derive(Clone, Copy)]
 pub enum Pins {
     Still,
     SclLow,
@@ -19,7 +21,7 @@ pub enum Pins {
 }
 
 // Pins are changed at the start of a state. SendClock has the number of clocks that are left, and whether SCL is high.
-#[derive(Drop)]
+#[derive(Clone, Copy)]
 pub enum State {
     Idle,
     SendStop,
@@ -27,7 +29,7 @@ pub enum State {
 }
 
 // The state, and the time until which its levels are held.
-#[derive(Drop)]
+#[derive(Clone, Copy)]
 pub struct BusClear {
     pub state: State,
     pub wait: u64,

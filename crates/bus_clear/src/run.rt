@@ -18,7 +18,7 @@ pub enum Ending {
 
 // What the caller sets: whether there are pins, whether a reset is asked for, the time at which clearing started, how long it may
 // take, and how many polls it may take.
-#[derive(Drop)]
+#[derive(Clone, Copy)]
 pub struct Terms {
     pub pins: bool,
     pub reset: bool,

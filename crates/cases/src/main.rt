@@ -1,6 +1,8 @@
 // Runs hand-picked lists on the controller model and prints what goes over the bus. The expected output is written by hand from the
 // paper. S is START, P is STOP; W52+ is a byte that the controller sent and the sensor acknowledged, R12- one that it received and did
 // not acknowledge.
+#![tactic(auto)]
+
 use controller::Phase;
 use controller::inspector::Verdict;
 use controller::model::{Answer, Ending};

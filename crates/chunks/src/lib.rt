@@ -1,4 +1,6 @@
 // Pieces: more bytes than the FIFO takes at once go over the bus piece by piece.
+#![tactic(auto)]
+
 ghost use Rattle.std.specs.Prelude.{◌≡◌};
 ghost use Rattle.chunks.specs.Pieces.{piece_of, count_of, start_of};
 

@@ -1,9 +1,11 @@
 // Command words: what the driver asks of the controller, one 32-bit word a command.
+#![tactic(auto)]
+
 ghost use Rattle.std.specs.Prelude.{◌≡◌};
 ghost use Rattle.command.specs.Word.{encode_of, meaning_of, opcode_of, done_of};
 
 // A command that the driver plans. A count is 1 to 255.
-#[derive(Drop)]
+#[derive(Clone, Copy)]
 pub enum Command {
     Start,
     Write(u8),

@@ -1,4 +1,6 @@
 // The controller's phases, and its rule for each command. The inspector and the model walk a list by these rules.
+#![tactic(auto)]
+
 ghost use Rattle.std.specs.Prelude.{◌≤◌, ◌≡◌, get_or};
 ghost use Rattle.controller.specs.Rules.{is_read, may_start, may_write, after_write, may_read, may_stop, may_end, read_turn, closes, effect_of};
 ghost use Rattle.controller.specs.Places.{state_at, Inside, Moved};
@@ -13,7 +15,7 @@ pub mod model;
 const FIFO: usize = 32;
 
 // What the controller is in the middle of.
-#[derive(Drop)]
+#[derive(Clone, Copy)]
 pub enum Phase {
     Idle,
     Started,
@@ -23,7 +25,7 @@ pub enum Phase {
 }
 
 // Where a list stands: the phase, how many FIFO bytes are used, and how many bytes were received.
-#[derive(Drop)]
+#[derive(Clone, Copy)]
 struct Place {
     phase: Phase,
     at: usize,

@@ -37,7 +37,7 @@ pub struct Report {
 
 // What went over the bus, two bytes an event, and the bytes received. Eight words, 32 FIFO bytes and 32 received bytes cause at
 // most 72 events.
-#[derive(Drop)]
+#[derive(Clone, Copy)]
 struct Trace {
     events: [u8; 144],
     count: usize,

@@ -1,1 +1,2 @@
 // Only statements over the definitions of the other crates, and their proofs.
+#![tactic(auto)]

@@ -8,6 +8,8 @@
 //
 // An answer is a line of sixteen hex digits: two for the number of the last call's answer, one for its reason, three for how many lists
 // were handed out, and ten for a digest of all that was told. The answers in `stdout` are the Rust original's.
+#![tactic(auto)]
+
 ghost use Rattle.std.specs.Prelude.{◌<◌};
 
 use libc::STDIN_FILENO;

@@ -1,4 +1,6 @@
 // One command list: what the controller is asked to do for one piece of an operation.
+#![tactic(auto)]
+
 ghost use Rattle.std.specs.Prelude.{◌≡◌, not, ◌&&◌, List, ◌++◌, map, ℕ, ◌+◌, ◌≤◌, ◌<◌, length, set, replicate};
 ghost use Rattle.std.proofs.lemmas.List.Edits.{sets};
 ghost use Rattle.command.specs.declared.Command.{Command};

@@ -2,6 +2,8 @@
 // is the first one's; with the two in the other order it would be the second one's. Where two have the same number, the next but one is
 // taken. A refusal has to leave the record, the read buffer and the list as they were, which each line says too. The expected output is
 // written by hand from the document. Refusal 7 of the builder, of next list and of the clear step is the C layer's.
+#![tactic(auto)]
+
 mod abandoning;
 mod beginning;
 mod building;

@@ -1,4 +1,6 @@
 // What a snapshot of the controller means for the list that it executes.
+#![tactic(auto)]
+
 ghost use Rattle.std.specs.Prelude.{◌≡◌, cond};
 ghost use Rattle.outcome.specs.declared.Error.TheVariants.{Timeout};
 ghost use Rattle.outcome.specs.declared.Outcome.TheVariants.{Pending, Done, Failed};
@@ -7,7 +9,7 @@ ghost use Rattle.outcome.specs.Answers.{reason_of, error_answer, answer_of};
 ghost use Rattle.outcome.specs.Outcomes.{unanswered_of, timed_out_of, errors_of, past_of, finished_of, forgive_timeout, and_then, poll_of, slots_of, commands_of, classify_of, received_of};
 
 // Why a byte was not acknowledged.
-#[derive(Drop)]
+#[derive(Clone, Copy)]
 pub enum Reason {
     Address,
     Data,
@@ -15,7 +17,7 @@ pub enum Reason {
 }
 
 // Refusals 8 to 11, which end a transaction.
-#[derive(Drop)]
+#[derive(Clone, Copy)]
 pub enum Error {
     ExecutionIncomplete,
     AcknowledgeCheckFailed(Reason),
@@ -24,7 +26,7 @@ pub enum Error {
 }
 
 // What a check or a poll finds. `Done` is success: no error, and nothing to wait for.
-#[derive(Drop)]
+#[derive(Clone, Copy)]
 pub enum Outcome {
     Pending,
     Done,
@@ -32,7 +34,7 @@ pub enum Outcome {
 }
 
 // What is read off the controller and the clock at one moment.
-#[derive(Drop)]
+#[derive(Clone, Copy)]
 pub struct Snapshot {
     pub nack: bool,
     pub arbitration_lost: bool,
@@ -47,7 +49,7 @@ pub struct Snapshot {
 }
 
 // When a list is due, in microseconds.
-#[derive(Drop)]
+#[derive(Clone, Copy)]
 pub enum Due {
     Never,
     At(u64),

@@ -2,6 +2,8 @@
 // deadlines are none, one that lies ahead, one that is reached and one that is past. In a line stand the bits in hex, then a letter
 // each for the error check; the poll at the four deadlines; the command check, with all commands done and with one that waits, at
 // the four; and the two together, with the poll to come and with the poll behind, in the same order.
+#![tactic(auto)]
+
 use libc::STDOUT_FILENO;
 use outcome::{Due, Outcome, Snapshot};
 

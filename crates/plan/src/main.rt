@@ -8,6 +8,8 @@
 //
 // The clock stands at 0, the read buffer has 4,096 bytes, and the sensor acknowledges every byte and sends 00 01 02 and so on. Of a
 // text that cannot be read nothing is shown but the line of its first fault.
+#![tactic(auto)]
+
 use libc::STDIN_FILENO;
 use outcome::Due;
 use print::{print, print_byte, print_number};

@@ -1,4 +1,6 @@
 // Refusals, each with document 01's number. Outcomes 8 to 11 are errors of a list: see crate `outcome`.
+#![tactic(auto)]
+
 ghost use Rattle.std.specs.Prelude.{◌≡◌};
 ghost use Rattle.refusal.specs.Numbers.{number_of};
 

@@ -1,5 +1,7 @@
 // Answers questions to the proved crates, a line a question: numbers in hex with one space between them, of which the first says what
 // is asked. Each answer is a line of sixteen hex digits. The questions in `stdin` and the answers in `stdout` are the Rust original's.
+#![tactic(auto)]
+
 ghost use Rattle.std.specs.Prelude.{◌<◌};
 
 use libc::{STDIN_FILENO, STDOUT_FILENO};

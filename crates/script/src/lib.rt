@@ -1,4 +1,6 @@
 // A script says in bytes which operations a transaction consists of.
+#![tactic(auto)]
+
 ghost use Rattle.std.specs.Prelude.{◌≡◌, ℕ, ◌+◌, ◌*◌, ◌≤◌, length, drop};
 ghost use Rattle.script.specs.Records.{record_at, records_of};
 ghost use Rattle.script.specs.Scripts.{told_of, body_of, script_of};

@@ -1,5 +1,7 @@
 // The calls for C, over numbers and byte slices: see include/sitankulo.h. Each reads its arguments, asks one function of another crate,
 // tests the room in the lent memory and writes.
+#![tactic(auto)]
+
 mod answer;
 mod changes;
 mod clear_layout;

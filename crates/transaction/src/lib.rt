@@ -1,4 +1,6 @@
 // A transaction: the command lists of a script, each handed out, waited for and completed in its turn.
+#![tactic(auto)]
+
 ghost use Rattle.std.specs.Prelude.{◌≡◌};
 ghost use Rattle.transaction.specs.Calls.{accepted_by, begin_of, next_of, complete_of, buffer_of, resets, abandon_of};
 ghost use Rattle.transaction.specs.Numbers.{begin_number, next_number, completion_answer, abandon_number};
@@ -30,7 +32,7 @@ pub struct Settings {
 
 // The record: how many lists are completed; whether one more is outstanding, when it is due and whether its poll has succeeded;
 // whether the transaction has failed; and its fixed deadline.
-#[derive(Drop)]
+#[derive(Clone, Copy)]
 pub struct Progress {
     pub place: usize,
     pub outstanding: bool,

@@ -10,7 +10,7 @@ ghost use Rattle.transaction.specs.Walk.{direction_of, before_of, Readable, kept
 use script::Record;
 
 // A kept operation: whether there is one, whether it reads, its length, and the place after its record, where a write's bytes end.
-#[derive(Drop)]
+#[derive(Clone, Copy)]
 struct Kept {
     there: bool,
     reads: bool,
@@ -19,7 +19,7 @@ struct Kept {
 }
 
 // What an operation does before and after its pieces.
-#[derive(Drop)]
+#[derive(Clone, Copy)]
 struct Flags {
     start: bool,
     stop: bool,
@@ -36,7 +36,7 @@ struct Cutting {
 
 // The piece that the next list carries, a write's from its place in the script on, and how far the read buffer is filled. Or no list
 // is left, or there are not so many lists.
-#[derive(Drop)]
+#[derive(Clone, Copy)]
 pub(crate) enum Found {
     Write {
         from: usize,

@@ -1,4 +1,6 @@
 // Numbers in lent byte slices, big-endian.
+#![tactic(auto)]
+
 ghost use Rattle.std.specs.Prelude.{◌≡◌, cond, ◌&&◌, ◌+◌, ◌*◌, ◌≤◌, length, replicate, leb};
 ghost use Rattle.std.proofs.Math.Seq.{paste};
 ghost use Rattle.std.proofs.lemmas.List.Edits.{sets};

@@ -1,0 +1,84 @@
+-- `controller::inspect_from` meets its contract. The loop's invariant: the verdict on what is left of the words is the verdict on all.
+use Prim.Native.Nat.{◌+◌}
+use mathlib.Core.Path.{◌≡◌, refl, sym, ap, ◌∙◌}
+use mathlib.Core.List.{◌∷◌}
+use lib.ListN.{drop, get_or}
+use native.Mathlib.Omega.{arith}
+use Rattle.controller.specs.Places.{state_at}
+use Rattle.controller.specs.Model.{run_from, run_list, done}
+use Rattle.controller.specs.Verdicts.{willing, verdict_of}
+use Rattle.controller.proofs.LawsRuns.{fifo_exceeded, fifo_fits, words_here, words_over, word_malformed, word_halts, word_goes, word_finishes}
+use Rattle.controller.proofs.inspector.inspect_from.Goals as goal
+
+pub returns-then-fifo-gt-FIFO : goal.returns-then-fifo-gt-FIFO
+returns-then-fifo-gt-FIFO c = sym (fifo_exceeded 32 _ c.args.phase c.if-fifo-gt-FIFO.true)
+
+here :
+    (c : goal.In-loop-i)
+    → verdict_of
+    (run_from 32
+    (get_or c.args.words c.loop-i.i 0
+    ∷ drop (c.loop-i.i + 1) c.args.words)
+    (state_at c.args.fifo.now c.loop-i.s) willing done)
+    ≡ verdict_of
+    (run_from 32 c.args.words
+    (record { phase = c.args.phase; fifo = c.args.fifo.now; received = 0 })
+    willing done)
+here c =
+    let a = c.args in
+    ap verdict_of (sym (words_here 32 a.t1 c.loop-i.i (state_at a.fifo.now c.loop-i.s) (omega arith)))
+    ∙ c.loop-i.invariant.3
+
+whole :
+    (c : goal.Else-fifo-gt-FIFO)
+    → verdict_of
+    (run_from 32 c.args.words
+    (record { phase = c.args.phase; fifo = c.args.fifo.now; received = 0 }) willing done)
+    ≡ verdict_of
+    (run_list 32 (record { words = c.args.words; fifo = c.args.fifo.now })
+    c.args.phase willing done)
+whole c = sym (fifo_fits 32 _ c.args.phase c.if-fifo-gt-FIFO.false)
+
+pub loop-i-init : goal.loop-i-init
+loop-i-init c = (omega arith, omega arith, omega arith, refl)
+
+pub returns-in-Malformed : goal.returns-in-Malformed
+returns-in-Malformed c =
+    let d = c in
+    sym (word_malformed 32 _ _ _ (sym d.decode-meaning.ensures ∙ c.enum_told-1.given.1))
+    ∙ here d ∙ whole d
+
+pub returns-in-Halts : goal.returns-in-Halts
+returns-in-Halts c =
+    let m = c in
+    let d = m in
+    sym
+    (word_halts 32 _ _ _ _ (sym d.decode-meaning.ensures ∙ m.meaning-1.given.1)
+    (rw c.enum_told-in-Halts-1.given.1 at c.take_turn-taken.ensures))
+    ∙ here d ∙ whole d
+
+pub returns-in-Finishes : goal.returns-in-Finishes
+returns-in-Finishes c =
+    let m = c in
+    let d = m in
+    sym
+    (word_finishes 32 _ _ _ _ (sym d.decode-meaning.ensures ∙ m.meaning-1.given.1) _
+    (rw c.taken-1.given.1 at c.take_turn-taken.ensures))
+    ∙ here d ∙ whole d
+
+pub loop-i-preserved : goal.loop-i-preserved
+loop-i-preserved c =
+    let m = c in
+    let d = m in
+    let moved = rw c.taken-in-GoesOn-1.given.1 at c.take_turn-taken.ensures in (
+      omega arith,
+      d.loop-i.invariant.1,
+      moved.1,
+      sym (word_goes 32 _ _ _ _ (sym d.decode-meaning.ensures ∙ m.meaning-1.given.1) _ moved.0) ∙ here d,
+    )
+
+pub returns : goal.returns
+returns c =
+    let a = c.args in
+    let l = c.loop-i in
+    sym (words_over 32 a.t1 l.i (state_at a.fifo.now l.s) (omega arith)) ∙ l.invariant.3 ∙ whole (goal.at.returns c).Else-fifo-gt-FIFO

@@ -1,0 +1,7 @@
+-- `list::with_list` meets its contract: the three parts are those of the list.
+use Rattle.list.specs.Lists.{listed}
+use Rattle.list.proofs.with_list.Goals as goal
+
+pub returns : goal.returns
+unfolding listed
+returns c = cc

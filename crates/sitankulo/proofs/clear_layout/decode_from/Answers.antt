@@ -1,0 +1,26 @@
+-- `sitankulo::clear_layout::decode_from` meets its contract.
+use borrow.Author.Tests.{ne_eqb}
+use Rattle.sitankulo.specs.ClearLayout.{decoded_from}
+use Rattle.sitankulo.proofs.clear_layout.decode_from.Goals as goal
+
+pub returns-in-0 : goal.returns-in-0
+unfolding decoded_from
+returns-in-0 c = rw c.in_default.keys1 c.hold_without_clocks.ensures
+
+pub returns-in-1 : goal.returns-in-1
+unfolding decoded_from
+returns-in-1 c = rw c.in_default.keys2 c.hold_without_clocks-in-1.ensures
+
+pub returns-in-2 : goal.returns-in-2
+unfolding decoded_from
+returns-in-2 c = rw c.in_default.keys3 c.hold.ensures
+
+pub returns-in-3 : goal.returns-in-3
+unfolding decoded_from
+returns-in-3 c = rw c.in_default.keys4 c.hold-in-3.ensures
+
+pub returns-in_default : goal.returns-in_default
+unfolding decoded_from
+returns-in_default c =
+    let none = c.in_default.rest in
+    simp (ne_eqb _ 0 none.0.0.0.1, ne_eqb _ 1 none.0.0.1, ne_eqb _ 2 none.0.1, ne_eqb _ 3 none.1)

@@ -1,0 +1,14 @@
+-- `sitankulo::clear_layout::put_clear` meets its contract.
+use lib.ListN.{length-set}
+use Rattle.sitankulo.proofs.LawsClears.{clear_put}
+use borrow.Author.Rules.{rules}
+use Rattle.sitankulo.proofs.clear_layout.put_clear.Goals as goal
+
+pub bounds-memory-1 : goal.bounds-memory-1
+bounds-memory-1 c = simp length-set (search rules)
+
+pub returns : goal.returns
+returns c =
+    let start = c in
+    rw (← c.state_byte.ensures, ← c.clocks_byte.ensures)
+    (clear_put start.args.memory.now _ _ _ start.args.clear.wait start.requires c.put_time.ensures)

@@ -1,0 +1,11 @@
+-- `sitankulo::clears::tell_poll` meets its contract.
+use Rattle.sitankulo.proofs.clears.tell_poll.Goals as goal
+
+pub returns-in-Ready : goal.returns-in-Ready
+returns-in-Ready c = rw c.enum_told-1.given.1
+
+pub returns-in-Pending : goal.returns-in-Pending
+returns-in-Pending c = rw c.told-1.given.1
+
+pub returns-in-ClockRange : goal.returns-in-ClockRange
+returns-in-ClockRange c = rw c.enum_told-in-ClockRange-1.given.1

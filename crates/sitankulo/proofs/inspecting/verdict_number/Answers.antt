@@ -1,0 +1,5 @@
+-- `sitankulo::inspecting::verdict_number` meets its contract.
+use Rattle.sitankulo.proofs.inspecting.verdict_number.Goals as goal
+
+pub returns-in-Passes : goal.returns-in-Passes
+returns-in-Passes c = rw (c.verdict-1.given.1, ← c.phase_number.ensures) c.pack.ensures

@@ -1,0 +1,11 @@
+-- `sitankulo::names::tell` meets its contract.
+use Rattle.sitankulo.proofs.LawsNames.{no_text, told}
+use Rattle.sitankulo.proofs.names.tell.Goals as goal
+
+pub returns-then-text-n : goal.returns-then-text-n
+returns-then-text-n c = no_text c.args.name.now c.args.text.now c.requires.0 c.if-text-n.true
+
+pub returns : goal.returns
+returns c =
+    let start = c in
+    told start.args.name.now start.args.text.now start.requires.0 c.if-text-n.false c.pack.result _ c.pack.ensures c.put_bytes.ensures

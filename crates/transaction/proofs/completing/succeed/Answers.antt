@@ -1,0 +1,6 @@
+-- `transaction::completing::succeed` meets its contract.
+use Rattle.transaction.proofs.completing.advance.Reads as advance-reads
+use Rattle.transaction.proofs.completing.succeed.Goals as goal
+
+pub returns : goal.returns
+returns c = rw c.advance.ensures

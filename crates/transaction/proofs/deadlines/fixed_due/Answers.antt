@@ -1,0 +1,16 @@
+-- `transaction::deadlines::fixed_due` meets its contract.
+use native.Mathlib.Omega.{arith}
+use Rattle.transaction.proofs.LawsDeadlines.{sum_told, sum_out}
+use Rattle.transaction.proofs.deadlines.fixed_due.Goals as goal
+
+pub returns-then-duration-time : goal.returns-then-duration-time
+returns-then-duration-time c = rw c.deadline-1.given.1 (sum_out c.args.time c.deadline-1.given.0.0 c.if-duration-time.true)
+
+pub returns-in-None : goal.returns-in-None
+returns-in-None c = rw c.enum_told-1.given.1
+
+pub returns-in-PerByte : goal.returns-in-PerByte
+returns-in-PerByte c = rw c.enum_told-in-PerByte-1.given.1
+
+pub returns-else-duration-time : goal.returns-else-duration-time
+returns-else-duration-time c = rw c.deadline-1.given.1 (sum_told c.args.time c.deadline-1.given.0.0 (omega arith) c.if-duration-time.false)
