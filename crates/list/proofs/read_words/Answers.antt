@@ -3,7 +3,7 @@ use Rattle.list.proofs.Laws.{read_opened, read_more}
 use Rattle.list.proofs.read_words.Goals as goal
 
 pub returns-then-start : goal.returns-then-start
-returns-then-start c =
+returns-then-start c address =
     rw (
       c.add_reading.ensures,
       c.add_cmd-addressed.ensures,
@@ -13,5 +13,5 @@ returns-then-start c =
     )
 
 pub returns : goal.returns
-returns c =
+returns c address =
     rw (c.add_reading-2.ensures, c.if-start.false, read_more)

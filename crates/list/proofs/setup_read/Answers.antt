@@ -6,6 +6,7 @@ use mathlib.Core.List.{[], ◌∷◌}
 use borrow.Author.Tests.{lt-ltb, le-ltb, ne_eqb}
 use Rattle.list.specs.Lists.{read_limit, read_of}
 use Rattle.list.proofs.Laws.{sets_padded, read_limit_most, read_opened_fifo, read_more_fifo, read_listed}
+use Rattle.list.proofs.setup_read.Goals.{Else-n-read_limit}
 use Rattle.list.proofs.setup_read.Goals as goal
 
 pub returns-then-address-gt-LAST_ADDRESS : goal.returns-then-address-gt-LAST_ADDRESS
@@ -28,7 +29,7 @@ returns-then-n-read_limit c =
       lt-ltb _ _ over,
     )
 
-within : (c : goal.Else-n-read_limit) → let a = c.args in a.n ≤ read_limit 32 a.continues
+within : (c : Else-n-read_limit) → let a = c.args in a.n ≤ read_limit 32 a.continues
 within c = rw c.read_limit.ensures at c.if-n-read_limit.false
 
 pub read_words-words-requires : goal.read_words-words-requires
@@ -39,7 +40,7 @@ pub returns-then-start : goal.returns-then-start
 returns-then-start c =
     let s = c in
     let e = s in
-    rw (read_listed 32 _ e.if-address-gt-LAST_ADDRESS.false _ _ _ _ (omega arith) (within e))
+    rw (read_listed 32 _ e.if-address-gt-LAST_ADDRESS.false _ _ _ _ (omega arith) (within (goal.at.returns-then-start c).Else-n-read_limit))
     (c.with_list.ensures _ _ (s.read_words-words.ensures _)
     (rw (c.opened_fifo.ensures, s.if-start.true, read_opened_fifo) (sets_padded 32 (_ ∷ []) (omega arith)))
     (rw (s.if-start.true, read_opened_fifo)))
@@ -48,7 +49,7 @@ pub returns : goal.returns
 returns c =
     let s = c in
     let e = s in
-    rw (read_listed 32 _ e.if-address-gt-LAST_ADDRESS.false _ _ _ _ (omega arith) (within e))
+    rw (read_listed 32 _ e.if-address-gt-LAST_ADDRESS.false _ _ _ _ (omega arith) (within (goal.at.returns c).Else-n-read_limit))
     (c.with_list-2.ensures _ _ (s.read_words-words.ensures _)
     (rw (s.if-start.false, read_more_fifo) (sets_padded 32 [] (omega arith)))
     (rw (s.if-start.false, read_more_fifo)))

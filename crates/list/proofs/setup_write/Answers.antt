@@ -8,6 +8,7 @@ use lib.ListN.{length}
 use borrow.Author.Tests.{lt-ltb, le-ltb}
 use Rattle.list.specs.Lists.{write_limit, write_of}
 use Rattle.list.proofs.Laws.{sets_padded, write_limit_opened, write_limit_most, write_opened_fifo, write_more_fifo, write_listed}
+use Rattle.list.proofs.setup_write.Goals.{Else-n-write_limit, Then-start}
 use Rattle.list.proofs.setup_write.Goals as goal
 
 pub returns-then-address-gt-LAST_ADDRESS : goal.returns-then-address-gt-LAST_ADDRESS
@@ -22,35 +23,16 @@ returns-then-n-write_limit c =
     rw (c.without_list-then-n-write_limit.ensures, le-ltb 127 _ c.if-address-gt-LAST_ADDRESS.false, lt-ltb _ _ over)
 
 within :
-    (c : goal.Else-n-write_limit)
+    (c : Else-n-write_limit)
     → let a = c.args in length a.bytes.now ≤ write_limit 32 a.address a.start
 within c = rw (c.write_limit.ensures c.args.address) at c.if-n-write_limit.false
 
-fits : (c : goal.Else-n-write_limit) → length c.args.bytes.now ≤ 32
+fits : (c : Else-n-write_limit) → length c.args.bytes.now ≤ 32
 fits c =
     let a = c.args in omega (arith, within c, write_limit_most 32 a.address a.start)
 
-opened-fits : (c : goal.Then-start) → suc (length c.args.bytes.now) ≤ 32
-opened-fits c =
-    let a = c.args in
-    let h = rw (c.if-start.true, write_limit_opened 32 a.address) at (within c) in
-    omega arith
-
 pub write_words-words-requires : goal.write_words-words-requires
 write_words-words-requires c = fits c
-
-pub load_fifo-fifo-requires : goal.load_fifo-fifo-requires
-load_fifo-fifo-requires c = omega (arith, opened-fits (goal.at.load_fifo-fifo-requires c).Then-start)
-
-pub returns-then-start : goal.returns-then-start
-returns-then-start c =
-    let s = c in
-    let e = s in
-    rw (write_listed 32 _ e.if-address-gt-LAST_ADDRESS.false _ _ _ (within e))
-    (c.with_list.ensures _ _ (s.write_words-words.ensures _ _ refl)
-    (rw (c.load_fifo-fifo.ensures, c.opened_fifo.ensures, s.if-start.true, write_opened_fifo)
-    (sets_padded 32 _ (opened-fits s)))
-    (rw (s.if-start.true, write_opened_fifo) (add-one _)))
 
 pub load_fifo-requires : goal.load_fifo-requires
 load_fifo-requires c = omega (arith, fits (goal.at.load_fifo-requires c).Else-n-write_limit)
@@ -59,7 +41,7 @@ pub returns : goal.returns
 returns c =
     let s = c in
     let e = s in
-    rw (write_listed 32 _ e.if-address-gt-LAST_ADDRESS.false _ _ _ (within e))
+    rw (write_listed 32 _ e.if-address-gt-LAST_ADDRESS.false _ _ _ (within (goal.at.returns c).Else-n-write_limit))
     (c.with_list-2.ensures _ _ (s.write_words-words.ensures _ _ refl)
-    (rw (c.load_fifo.ensures, s.if-start.false, write_more_fifo) (sets_padded 32 _ (fits e)))
+    (rw (c.load_fifo.ensures, s.if-start.false, write_more_fifo) (sets_padded 32 _ (fits (goal.at.returns c).Else-n-write_limit)))
     (rw (s.if-start.false, write_more_fifo)))

@@ -4,4 +4,4 @@ use Rattle.list.proofs.with_list.Goals as goal
 
 pub returns : goal.returns
 unfolding listed
-returns c = cc
+returns c commands bytes words fifo count = cc

@@ -7,7 +7,7 @@ use Rattle.list.proofs.Laws.{counted_some, write_opened, write_more}
 use Rattle.list.proofs.write_words.Goals as goal
 
 pub returns-then-start : goal.returns-then-start
-returns-then-start c =
+returns-then-start c address bytes e =
     rw (
       c.add_closing.ensures,
       c.add_cmd-written.ensures,
@@ -18,7 +18,7 @@ returns-then-start c =
     )
 
 pub returns-then-n-eq0 : goal.returns-then-n-eq0
-returns-then-n-eq0 c =
+returns-then-n-eq0 c address bytes e =
     rw (
       c.add_closing-then-n-eq0.ensures,
       c.if-start.false,
@@ -28,7 +28,7 @@ returns-then-n-eq0 c =
     )
 
 pub returns : goal.returns
-returns c =
+returns c address bytes e =
     rw (
       c.add_closing-2.ensures,
       c.add_cmd-written-2.ensures,

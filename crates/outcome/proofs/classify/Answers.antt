@@ -7,6 +7,7 @@ use Rattle.outcome.specs.declared.Error.TheVariants.{Timeout}
 use Rattle.outcome.specs.declared.Outcome.TheVariants.{Pending, Done, Failed}
 use Rattle.outcome.specs.declared.Snapshot.{Snapshot}
 use Rattle.outcome.specs.Outcomes.{errors_of, past_of, finished_of, forgive_timeout, and_then, succeeds, poll_of, slots_of, commands_of, classify_of}
+use Rattle.outcome.proofs.classify.Goals.{After-poll_unless-poll}
 use Rattle.outcome.proofs.classify.Goals as goal
 
 by-poll :
@@ -19,28 +20,3 @@ by-poll :
 unfolding classify_of poll_of commands_of
 by-poll s true due error done past poll e d p q = rw (q, e, p) refl
 by-poll s false due error done past poll e d p q = rw (q, e, d, p) refl
-
-whole :
-    (c : goal.After-poll_unless-poll)
-    → record {
-      outcome = and_then c.poll_unless-poll.result
-          (and_then c.check_errors-error.result
-          (slots_of c.is_past-past.result c.args.s.commands-1));
-      polled = succeeds c.poll_unless-poll.result;
-    }
-    ≡ classify_of c.args.s c.args.polled c.args.due
-whole c =
-    let args = c.args in
-    by-poll args.s args.polled args.due c.check_errors-error.result c.is_done.result
-    c.is_past-past.result c.poll_unless-poll.result c.check_errors-error.ensures c.is_done.ensures
-    c.is_past-past.ensures c.poll_unless-poll.ensures
-
-pub returns-in-Pending : goal.returns-in-Pending
-returns-in-Pending c = rw c.enum_told-1.given.1 at (whole (goal.at.returns-in-Pending c).After-poll_unless-poll)
-
-pub returns-in-Failed : goal.returns-in-Failed
-returns-in-Failed c = rw c.poll-1.given.1 at (whole (goal.at.returns-in-Failed c).After-poll_unless-poll)
-
-pub returns-in-Done : goal.returns-in-Done
-returns-in-Done c =
-    rw c.check_by.ensures (rw c.enum_told-in-Done-1.given.1 at (whole (goal.at.returns-in-Done c).After-poll_unless-poll))

@@ -6,6 +6,7 @@ use lib.Seq.{sets}
 use native.Mathlib.Omega.{arith}
 use Rattle.bus_clear.specs.Pins.{changes_of, change_bytes}
 use Rattle.bus_clear.proofs.LawsLaying.{lays_none, lays_one, lays_two}
+use Rattle.bus_clear.proofs.run.lay.Goals.{After-second_byte}
 use Rattle.bus_clear.proofs.run.lay.Goals as goal
 
 pub returns-then-n-eq0 : goal.returns-then-n-eq0
@@ -21,7 +22,7 @@ returns-then-n-eq1 c =
     (omega (arith, one), rw c.first_byte.ensures (lays_one a.memory.now a.at a.pins one))
 
 two :
-    (c : goal.After-second_byte)
+    (c : After-second_byte)
     → let a = c.args in
     (length (changes_of a.pins) ≡ 2)
     × (set (set a.memory.now a.at (get_or (change_bytes a.pins) 0 0)) (a.at + 1) (get_or (change_bytes a.pins) 1 0)

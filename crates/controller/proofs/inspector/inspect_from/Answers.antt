@@ -8,13 +8,14 @@ use Rattle.controller.specs.Places.{state_at}
 use Rattle.controller.specs.Model.{run_from, run_list, done}
 use Rattle.controller.specs.Verdicts.{willing, verdict_of}
 use Rattle.controller.proofs.LawsRuns.{fifo_exceeded, fifo_fits, words_here, words_over, word_malformed, word_halts, word_goes, word_finishes}
+use Rattle.controller.proofs.inspector.inspect_from.Goals.{Else-fifo-gt-FIFO, In-loop-i}
 use Rattle.controller.proofs.inspector.inspect_from.Goals as goal
 
 pub returns-then-fifo-gt-FIFO : goal.returns-then-fifo-gt-FIFO
 returns-then-fifo-gt-FIFO c = sym (fifo_exceeded 32 _ c.args.phase c.if-fifo-gt-FIFO.true)
 
 here :
-    (c : goal.In-loop-i)
+    (c : In-loop-i)
     → verdict_of
     (run_from 32
     (get_or c.args.words c.loop-i.i 0
@@ -30,7 +31,7 @@ here c =
     ∙ c.loop-i.invariant.3
 
 whole :
-    (c : goal.Else-fifo-gt-FIFO)
+    (c : Else-fifo-gt-FIFO)
     → verdict_of
     (run_from 32 c.args.words
     (record { phase = c.args.phase; fifo = c.args.fifo.now; received = 0 }) willing done)
@@ -46,7 +47,7 @@ pub returns-in-Malformed : goal.returns-in-Malformed
 returns-in-Malformed c =
     let d = c in
     sym (word_malformed 32 _ _ _ (sym d.decode-meaning.ensures ∙ c.enum_told-1.given.1))
-    ∙ here d ∙ whole d
+    ∙ here (goal.at.returns-in-Malformed c).In-loop-i ∙ whole (goal.at.returns-in-Malformed c).Else-fifo-gt-FIFO
 
 pub returns-in-Halts : goal.returns-in-Halts
 returns-in-Halts c =
@@ -55,7 +56,7 @@ returns-in-Halts c =
     sym
     (word_halts 32 _ _ _ _ (sym d.decode-meaning.ensures ∙ m.meaning-1.given.1)
     (rw c.enum_told-in-Halts-1.given.1 at c.take_turn-taken.ensures))
-    ∙ here d ∙ whole d
+    ∙ here (goal.at.returns-in-Halts c).In-loop-i ∙ whole (goal.at.returns-in-Halts c).Else-fifo-gt-FIFO
 
 pub returns-in-Finishes : goal.returns-in-Finishes
 returns-in-Finishes c =
@@ -64,7 +65,7 @@ returns-in-Finishes c =
     sym
     (word_finishes 32 _ _ _ _ (sym d.decode-meaning.ensures ∙ m.meaning-1.given.1) _
     (rw c.taken-1.given.1 at c.take_turn-taken.ensures))
-    ∙ here d ∙ whole d
+    ∙ here (goal.at.returns-in-Finishes c).In-loop-i ∙ whole (goal.at.returns-in-Finishes c).Else-fifo-gt-FIFO
 
 pub loop-i-preserved : goal.loop-i-preserved
 loop-i-preserved c =
@@ -74,7 +75,7 @@ loop-i-preserved c =
       omega arith,
       d.loop-i.invariant.1,
       moved.1,
-      sym (word_goes 32 _ _ _ _ (sym d.decode-meaning.ensures ∙ m.meaning-1.given.1) _ moved.0) ∙ here d,
+      sym (word_goes 32 _ _ _ _ (sym d.decode-meaning.ensures ∙ m.meaning-1.given.1) _ moved.0) ∙ here (goal.at.loop-i-preserved c).In-loop-i,
     )
 
 pub returns : goal.returns

@@ -4,12 +4,13 @@ use Rattle.controller.specs.Model.{Run}
 use Rattle.controller.specs.Traces.{run_of}
 use Rattle.controller.specs.Tracing.{Tells}
 use Rattle.controller.proofs.LawsHeard.{received_held, events_held, short_received, short_events, reports}
+use Rattle.controller.proofs.model.run.Goals.{After-trace_list-traced}
 use Rattle.controller.proofs.model.run.Goals as goal
 
 abbrev the-run : tie.Start → Run
 the-run c = run_of c.args.words c.args.fifo.now c.args.phase c.args.sends.now c.args.refuses
 
-told : (c : goal.After-trace_list-traced) → Tells c.trace_list-traced.result (the-run c)
+told : (c : After-trace_list-traced) → Tells c.trace_list-traced.result (the-run c)
 told c = c.trace_list-traced.ensures
 
 pub returns-then-received-got : goal.returns-then-received-got
@@ -23,19 +24,19 @@ returns-then-events-size c =
 pub lay-requires : goal.lay-requires
 lay-requires c =
     let e = c in
-    (received_held (told e), e.if-received-got.false)
+    (received_held (told (goal.at.lay-requires c).After-trace_list-traced), e.if-received-got.false)
 
 pub lay-requires-2 : goal.lay-requires-2
 lay-requires-2 c =
     let e = c in
-    (events_held (told e), e.if-events-size.false)
+    (events_held (told (goal.at.lay-requires-2 c).After-trace_list-traced), e.if-events-size.false)
 
 pub returns : goal.returns
 returns c =
     let l = c in
     let e = l in
     let a = e.args in
-    let whole = reports (told e) a.received-1.now a.events-1.now e.if-received-got.false e.if-events-size.false in
+    let whole = reports (told (goal.at.returns c).After-trace_list-traced) a.received-1.now a.events-1.now e.if-received-got.false e.if-events-size.false in
     record {
       reported = whole.reported;
       received_laid = l.lay.ensures ∙ whole.received_laid;

@@ -9,19 +9,20 @@ use Rattle.sitankulo.specs.Transactions.{abandoned_for}
 use Rattle.sitankulo.proofs.LawsRecords.{record_long}
 use Rattle.sitankulo.proofs.LawsAsked.{abandoned_for_lem}
 use Rattle.sitankulo.proofs.LawsAbandon.{abandon_misfit, abandon_foreign, abandon_stays, abandon_ahead}
+use Rattle.sitankulo.proofs.transactions.sitankulo_abandon.Goals.{After-abandon-abandoned}
 use Rattle.sitankulo.proofs.transactions.sitankulo_abandon.Goals as goal
 
 abbrev began : tie.After-abandon → tie.Start
 began c = c.before.before.before.before.before.before.before.before.before.before
 
-fit : (c : goal.After-abandon-abandoned) → length (began c).args.commands.now ≡ 32
+fit : (c : After-abandon-abandoned) → length (began c).args.commands.now ≡ 32
 fit c = c.if-commands-ne-WORDS.false
 
-ours : (c : goal.After-abandon-abandoned) → is_record (began c).args.state.now ≡ true
+ours : (c : After-abandon-abandoned) → is_record (began c).args.state.now ≡ true
 ours c = sym c.read-held.ensures.0 ∙ not-false _ c.if-not-held.false
 
 made :
-    (c : goal.After-abandon-abandoned)
+    (c : After-abandon-abandoned)
     → c.abandon-abandoned.result ≡ abandoned_for (began c).args.state.now (began c).args.bits (began c).args.commands.now (began c).args.time
 made c =
     let read = c.read-held in
@@ -43,18 +44,18 @@ pub returns-then-not-does_go_ahead : goal.returns-then-not-does_go_ahead
 returns-then-not-does_go_ahead c =
     let numbered = c in
     let called = numbered in
-    abandon_stays _ _ _ (fit called) (ours called) _ (made called) _ numbered.abandon_number-number.ensures
+    abandon_stays _ _ _ (fit (goal.at.returns-then-not-does_go_ahead c).After-abandon-abandoned) (ours (goal.at.returns-then-not-does_go_ahead c).After-abandon-abandoned) _ (made (goal.at.returns-then-not-does_go_ahead c).After-abandon-abandoned) _ numbered.abandon_number-number.ensures
     (sym c.does_go_ahead.ensures ∙ not-true _ c.if-not-does_go_ahead.true)
 
 pub encode-requires : goal.encode-requires
 encode-requires c =
     let called = c in
-    record_long (began called).args.state.now (ours called)
+    record_long (began called).args.state.now (ours (goal.at.encode-requires c).After-abandon-abandoned)
 
 pub returns : goal.returns
 returns c =
     let numbered = c in
     let called = numbered in
-    abandon_ahead _ _ _ (fit called) (ours called) _ (made called) _ numbered.abandon_number-number.ensures
+    abandon_ahead _ _ _ (fit (goal.at.returns c).After-abandon-abandoned) (ours (goal.at.returns c).After-abandon-abandoned) _ (made (goal.at.returns c).After-abandon-abandoned) _ numbered.abandon_number-number.ensures
     (sym c.does_go_ahead.ensures ∙ not-false _ c.if-not-does_go_ahead.false)
     _ c.encode.ensures

@@ -9,22 +9,23 @@ use Rattle.sitankulo.specs.Transactions.{completed_for, landed_for}
 use Rattle.sitankulo.proofs.LawsRecords.{record_long}
 use Rattle.sitankulo.proofs.LawsAsked.{completed_for_lem, landed_for_lem}
 use Rattle.sitankulo.proofs.LawsComplete.{not_landed, complete_misfit, complete_foreign, complete_silent, complete_told_lem}
+use Rattle.sitankulo.proofs.transactions.sitankulo_complete.Goals.{After-complete-completed}
 use Rattle.sitankulo.proofs.transactions.sitankulo_complete.Goals as goal
 
 abbrev began : tie.After-complete → tie.Start
 began c = c.before.before.before.before.before.before.before.before.before.before.before.before.before.before
 
-fit : (c : goal.After-complete-completed) → length (began c).args.commands.now ≡ 32
+fit : (c : After-complete-completed) → length (began c).args.commands.now ≡ 32
 fit c = c.if-commands-ne-WORDS.false
 
-ours : (c : goal.After-complete-completed) → is_record (began c).args.state.now ≡ true
+ours : (c : After-complete-completed) → is_record (began c).args.state.now ≡ true
 ours c = sym c.read-held.ensures.0 ∙ not-false _ c.if-not-held.false
 
-said : (c : goal.After-complete-completed) → c.read-held.result.progress-1 ≡ record_in (began c).args.state.now
+said : (c : After-complete-completed) → c.read-held.result.progress-1 ≡ record_in (began c).args.state.now
 said c = c.read-held.ensures.1 (not-false _ c.if-not-held.false)
 
 made :
-    (c : goal.After-complete-completed)
+    (c : After-complete-completed)
     → c.complete-completed.result
     ≡ completed_for (began c).args.state.now (began c).args.address (began c).args.script.now (began c).args.bits
     (began c).args.commands.now (began c).args.time (began c).args.received.now (began c).args.buffer.now
@@ -35,7 +36,7 @@ made c =
     args.address args.script.now args.received.now args.buffer.now
 
 lands :
-    (c : goal.After-complete-completed)
+    (c : After-complete-completed)
     → c.complete-completed.new.1.1.1.1.1.0
     ≡ landed_for (began c).args.state.now (began c).args.address (began c).args.script.now (began c).args.bits
     (began c).args.commands.now (began c).args.time (began c).args.received.now (began c).args.buffer.now
@@ -63,18 +64,18 @@ pub returns-then-not-does_tell : goal.returns-then-not-does_tell
 returns-then-not-does_tell c =
     let answered = c in
     let called = answered in
-    complete_silent _ _ _ _ _ _ (fit called) (ours called) _ (made called) _ answered.completion_answer-answer.ensures (not_landed _ _ _ _ _ _ _ _) _ (lands called)
+    complete_silent _ _ _ _ _ _ (fit (goal.at.returns-then-not-does_tell c).After-complete-completed) (ours (goal.at.returns-then-not-does_tell c).After-complete-completed) _ (made (goal.at.returns-then-not-does_tell c).After-complete-completed) _ answered.completion_answer-answer.ensures (not_landed _ _ _ _ _ _ _ _) _ (lands (goal.at.returns-then-not-does_tell c).After-complete-completed)
     (sym c.does_tell.ensures ∙ not-true _ c.if-not-does_tell.true)
 
 pub encode-requires : goal.encode-requires
 encode-requires c =
     let called = c in
-    record_long (began called).args.state.now (ours called)
+    record_long (began called).args.state.now (ours (goal.at.encode-requires c).After-complete-completed)
 
 pub returns : goal.returns
 returns c =
     let answered = c in
     let called = answered in
-    complete_told_lem _ _ _ _ _ _ (fit called) (ours called) _ (made called) _ answered.completion_answer-answer.ensures (not_landed _ _ _ _ _ _ _ _) _ (lands called)
+    complete_told_lem _ _ _ _ _ _ (fit (goal.at.returns c).After-complete-completed) (ours (goal.at.returns c).After-complete-completed) _ (made (goal.at.returns c).After-complete-completed) _ answered.completion_answer-answer.ensures (not_landed _ _ _ _ _ _ _ _) _ (lands (goal.at.returns c).After-complete-completed)
     (sym c.does_tell.ensures ∙ not-false _ c.if-not-does_tell.false)
     _ c.encode.ensures

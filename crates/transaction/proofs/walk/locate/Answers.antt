@@ -4,6 +4,7 @@ use mathlib.Core.Path.{◌∙◌}
 use mathlib.Core.Bool.{false≢true}
 use lib.ListN.{length}
 use Rattle.transaction.proofs.LawsStanding.{inside_wider, standing_first, standing_over, standing_beyond, Onward, onward}
+use Rattle.transaction.proofs.walk.locate.Goals.{After-count_lists-lists}
 use Rattle.transaction.proofs.walk.locate.Goals as goal
 
 pub loop-ahead-init : goal.loop-ahead-init
@@ -34,7 +35,7 @@ pub next_kept-following-requires : goal.next_kept-following-requires
 next_kept-following-requires c = (c.loop-ahead.invariant.0, c.loop-ahead.invariant.2)
 
 here :
-    (c : goal.After-count_lists-lists)
+    (c : After-count_lists-lists)
     → Onward c.args.script.now c.args.place c.loop-ahead.ahead c.next_kept-following.result
     c.flags_of-flags.result c.count_lists-lists.result c.loop-ahead.left c.loop-ahead.landing
 here c =

@@ -1,10 +1,11 @@
 -- `transaction::walk::next_kept` meets its contract: wherever the walk stands, it has passed nothing that is kept.
 use native.Mathlib.Omega.{arith}
 use Rattle.transaction.proofs.LawsKept.{Seen, seen}
+use Rattle.transaction.proofs.walk.next_kept.Goals.{After-next_record-step}
 use Rattle.transaction.proofs.walk.next_kept.Goals as goal
 
 here :
-    (c : goal.After-next_record-step)
+    (c : After-next_record-step)
     → Seen c.args.script.now c.args.from c.loop-length.at c.next_record-step.result
 here c =
     let args = c.args in

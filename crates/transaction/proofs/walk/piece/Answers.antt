@@ -2,10 +2,11 @@
 use native.Mathlib.Omega.{arith}
 use mathlib.Core.Path.{refl}
 use Rattle.transaction.proofs.LawsOperation.{Cut, cut}
+use Rattle.transaction.proofs.walk.piece.Goals.{After-cut-piece}
 use Rattle.transaction.proofs.walk.piece.Goals as goal
 
 here :
-    (c : goal.After-cut-piece)
+    (c : After-cut-piece)
     → Cut c.args.ahead c.args.flags c.args.at c.args.landing
     c.cut-piece.result.start c.cut-piece.result.size c.cut-piece.result.own-1
 here c =
