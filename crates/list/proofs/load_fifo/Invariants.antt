@@ -7,7 +7,7 @@ use lib.Seq.{sets}
 use Rattle.list.proofs.load_fifo.Given as goal
 
 abbrev pub invariant-loop-i : goal.invariant-loop-i
-invariant-loop-i l =     (l.i ≤ length l.bytes) × (sets l.fifo (l.at + l.i) (drop l.i l.bytes) ≡ sets l.initial.fifo l.at l.bytes)
+invariant-loop-i l = (l.i ≤ length l.bytes) × (sets l.fifo (l.at + l.i) (drop l.i l.bytes) ≡ sets l.initial.fifo l.at l.bytes)
 
 abbrev pub decreases-loop-i : goal.decreases-loop-i
 decreases-loop-i l = length l.bytes - l.i

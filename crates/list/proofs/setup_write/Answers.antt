@@ -31,6 +31,25 @@ fits : (c : Else-n-write_limit) → length c.args.bytes.now ≤ 32
 fits c =
     let a = c.args in omega (arith, within c, write_limit_most 32 a.address a.start)
 
+opened_fits : (c : Then-start) → suc (length c.args.bytes.now) ≤ 32
+opened_fits c =
+    let a = c.args in
+    let h = rw (c.write_limit.ensures a.address, c.if-start.true, write_limit_opened 32 a.address) at c.if-n-write_limit.false in
+    omega arith
+
+pub load_fifo-fifo-requires : goal.load_fifo-fifo-requires
+load_fifo-fifo-requires c = omega (arith, opened_fits (goal.at.load_fifo-fifo-requires c).Then-start)
+
+pub returns-then-start : goal.returns-then-start
+returns-then-start c =
+    let s = c in
+    let e = s in
+    rw (write_listed 32 _ e.if-address-gt-LAST_ADDRESS.false _ _ _ (within (goal.at.returns-then-start c).Else-n-write_limit))
+    (c.with_list.ensures _ _ (s.write_words-words.ensures _ _ refl)
+    (rw (c.load_fifo-fifo.ensures, c.opened_fifo.ensures, s.if-start.true, write_opened_fifo)
+    (sets_padded 32 _ (opened_fits (goal.at.returns-then-start c).Then-start)))
+    (rw (s.if-start.true, write_opened_fifo) (add-one _)))
+
 pub write_words-words-requires : goal.write_words-words-requires
 write_words-words-requires c = fits c
 

@@ -4,7 +4,6 @@ use mathlib.Core.Path.{◌≡◌, sym, ◌∙◌}
 use mathlib.Core.List.{◌∷◌}
 use lib.ListN.{drop, get_or}
 use native.Mathlib.Omega.{arith}
-use borrow.Author.Tests.{not-true, not-false}
 use Rattle.command.specs.Word.{opcode_of}
 use Rattle.outcome.specs.Outcomes.{slots_of}
 use Rattle.outcome.proofs.Laws.{slot_here, slots_over, slot_zero, slot_end, slot_late, slot_waits, slot_stop, slot_done}
@@ -35,3 +34,42 @@ loop-i-preserved c = (
   c.loop-i.invariant.1,
   sym (slot_zero _ _ _ c.if-word-ne0.false) ∙ here (goal.at.loop-i-preserved c).In-loop-i,
 )
+
+pub returns-then-past : goal.returns-then-past
+returns-then-past c =
+    sym
+    (slot_late _ _ _ c.if-word-ne0.true (no_end (goal.at.returns-then-past c).Else-opcode-eq-END)
+    (sym c.is_done.ensures ∙ c.if-not-is_done.true) c.if-past.true)
+    ∙ here (goal.at.returns-then-past c).In-loop-i
+
+pub returns-then-not-is_done : goal.returns-then-not-is_done
+returns-then-not-is_done c =
+    sym
+    (slot_waits _ _ _ c.if-word-ne0.true (no_end (goal.at.returns-then-not-is_done c).Else-opcode-eq-END)
+    (sym c.is_done.ensures ∙ c.if-not-is_done.true) c.if-past.false)
+    ∙ here (goal.at.returns-then-not-is_done c).In-loop-i
+
+pub returns-then-opcode-eq-STOP : goal.returns-then-opcode-eq-STOP
+returns-then-opcode-eq-STOP c =
+    sym
+    (slot_stop _ _ _ c.if-word-ne0.true (no_end (goal.at.returns-then-opcode-eq-STOP c).Else-opcode-eq-END)
+    (sym c.is_done.ensures ∙ c.if-not-is_done.false)
+    (sym c.opcode-opcode.ensures ∙ c.if-opcode-eq-STOP.true))
+    ∙ here (goal.at.returns-then-opcode-eq-STOP c).In-loop-i
+
+pub loop-i-preserved-else-opcode-eq-STOP : goal.loop-i-preserved-else-opcode-eq-STOP
+loop-i-preserved-else-opcode-eq-STOP c = (
+  omega arith,
+  c.loop-i.invariant.1,
+  sym
+      (slot_done _ _ _ c.if-word-ne0.true (no_end (goal.at.loop-i-preserved-else-opcode-eq-STOP c).Else-opcode-eq-END)
+      (sym c.is_done.ensures ∙ c.if-not-is_done.false)
+      (λ e. c.if-opcode-eq-STOP.false (c.opcode-opcode.ensures ∙ e)))
+      ∙ here (goal.at.loop-i-preserved-else-opcode-eq-STOP c).In-loop-i,
+)
+
+pub returns : goal.returns
+returns c =
+    let a = c.args in
+    let l = c.loop-i in
+    sym (slots_over a.past a.commands l.i (omega arith)) ∙ l.invariant.2

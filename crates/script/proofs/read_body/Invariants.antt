@@ -7,7 +7,7 @@ use Rattle.script.proofs.LawsWalk.{ahead}
 use Rattle.script.proofs.read_body.Given as goal
 
 abbrev pub invariant-loop-length : goal.invariant-loop-length
-invariant-loop-length l =     (l.at ≤ length l.script) × (l.total ≤ 65535 * l.at) × (ahead l.total (records_of (drop l.at l.script)) ≡ ahead 0 (records_of (drop 3 l.script)))
+invariant-loop-length l = (l.at ≤ length l.script) × (l.total ≤ 65535 * l.at) × (ahead l.total (records_of (drop l.at l.script)) ≡ ahead 0 (records_of (drop 3 l.script)))
 
 abbrev pub decreases-loop-length : goal.decreases-loop-length
 decreases-loop-length l = length l.script - l.at
