@@ -17,7 +17,7 @@ use Rattle.script.specs.Records.{big_endian, operations_from}
 use Rattle.script.specs.Scripts.{asks, read_total, script_of}
 use Rattle.script.proofs.LawsAccepted.{accepted_facts}
 use Rattle.turns.specs.Steps.{Step, Before, nothing, after, steps_from}
-use Rattle.turns.specs.Turns.{Turn, turn, over, beyond, listless, with_list, turns_of, turn_at}
+use Rattle.turns.specs.Turns.{Turn, turn, over, beyond, receives, listless, with_list, turns_of, turn_at}
 use Rattle.turns.proofs.LawsTurns.{write_count, read_count}
 
 -- a byte has at most one piece of its own, and an operation one more
@@ -120,7 +120,7 @@ unfolding turn_at
 inside landing zero [] e = absurd (false≢true e)
 inside landing (suc place) [] e = absurd (false≢true e)
 inside landing zero (s ∷ ss) e = omega arith
-inside landing (suc place) (s ∷ ss) e = omega (arith, inside _ place ss e)
+inside landing (suc place) (s ∷ ss) e = omega (arith, inside (landing + receives s) place ss e)
 
 pub place_below :
     (address : ℕ) (script : List ℕ) (os : List Operation) (place : ℕ) (s : Step) (landing : ℕ)

@@ -4,9 +4,6 @@ use mathlib.Core.Bool.{true, false}
 use Rattle.transaction.specs.Calls.{resets}
 use Rattle.transaction.proofs.LawsStanding.{off, on}
 use Rattle.transaction.proofs.LawsAbandoning.{abandon_refused, abandon_polled, abandon_checking}
-use Rattle.outcome.proofs.poll_completion.Reads as poll-completion-reads
-use Rattle.transaction.proofs.completing.fail.Reads as fail-reads
-use Rattle.transaction.proofs.may_run.Reads as may-run-reads
 use Rattle.transaction.proofs.abandon.Goals as goal
 
 pub returns-then-not-p : goal.returns-then-not-p

@@ -2,10 +2,10 @@
 use Rattle.transaction.proofs.accept.Goals as goal
 
 pub returns-then-busy : goal.returns-then-busy
-returns-then-busy c = rw (c.timing-1.given.1, c.if-busy.true)
+returns-then-busy c = rw (c.in-Told.is, c.if-busy.true)
 
 pub returns-in-OutOfRange : goal.returns-in-OutOfRange
-returns-in-OutOfRange c = rw c.enum_told-1.given.1
+returns-in-OutOfRange c = rw c.in-OutOfRange.is
 
 pub returns-else-busy : goal.returns-else-busy
-returns-else-busy c = rw (c.timing-1.given.1, c.if-busy.false)
+returns-else-busy c = rw (c.in-Told.is, c.if-busy.false)

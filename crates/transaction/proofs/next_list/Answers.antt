@@ -1,28 +1,25 @@
 -- `transaction::next_list` meets its contract.
 use mathlib.Core.Path.{sym, ◌∙◌}
 use Rattle.transaction.proofs.LawsScript.{walkable, next_refused, next_accepted}
-use Rattle.script.proofs.read_script.Reads as read-script-reads
-use Rattle.transaction.proofs.next.hand_turn.Reads as hand-turn-reads
-use Rattle.transaction.proofs.next.without_list.Reads as without-list-reads
 use Rattle.transaction.proofs.next_list.Goals as goal
 
 pub hand_turn-requires : goal.hand_turn-requires
 hand_turn-requires c =
     let args = c.args in
-    walkable args.address args.script.now c.enum_told-1.given.0.0 (sym c.enum_told-1.given.1 ∙ c.read_script-verdict.ensures)
+    walkable args.address args.script.now c.in-Accepted.field-0 (sym c.in-Accepted.is ∙ c.read_script-verdict.ensures)
 
 pub returns-in-Refused : goal.returns-in-Refused
 returns-in-Refused c =
     let args = c.args in
     c.without_list.ensures
-    ∙ next_refused args.address args.script.now c.verdict-1.given.0.0
-    (sym c.verdict-1.given.1 ∙ c.read_script-verdict.ensures)
+    ∙ next_refused args.address args.script.now c.in-Refused.refusal
+    (sym c.in-Refused.is ∙ c.read_script-verdict.ensures)
     args.p args.settings args.time
 
 pub returns-in-Accepted : goal.returns-in-Accepted
 returns-in-Accepted c =
     let args = c.args in
     c.hand_turn.ensures
-    ∙ next_accepted args.address args.script.now c.enum_told-1.given.0.0
-    (sym c.enum_told-1.given.1 ∙ c.read_script-verdict.ensures)
+    ∙ next_accepted args.address args.script.now c.in-Accepted.field-0
+    (sym c.in-Accepted.is ∙ c.read_script-verdict.ensures)
     args.p args.settings args.time

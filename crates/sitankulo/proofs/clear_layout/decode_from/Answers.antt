@@ -5,19 +5,19 @@ use Rattle.sitankulo.proofs.clear_layout.decode_from.Goals as goal
 
 pub returns-in-0 : goal.returns-in-0
 unfolding decoded_from
-returns-in-0 c = rw c.in_default.keys1 c.hold_without_clocks.ensures
+returns-in-0 c = rw c.in-0.is c.hold_without_clocks.ensures
 
 pub returns-in-1 : goal.returns-in-1
 unfolding decoded_from
-returns-in-1 c = rw c.in_default.keys2 c.hold_without_clocks-in-1.ensures
+returns-in-1 c = rw c.in-1.is c.hold_without_clocks-in-1.ensures
 
 pub returns-in-2 : goal.returns-in-2
 unfolding decoded_from
-returns-in-2 c = rw c.in_default.keys3 c.hold.ensures
+returns-in-2 c = rw c.in-2.is c.hold.ensures
 
 pub returns-in-3 : goal.returns-in-3
 unfolding decoded_from
-returns-in-3 c = rw c.in_default.keys4 c.hold-in-3.ensures
+returns-in-3 c = rw c.in-3.is c.hold-in-3.ensures
 
 pub returns-in_default : goal.returns-in_default
 unfolding decoded_from

@@ -5,10 +5,10 @@ use Rattle.sitankulo.proofs.clear_runs.sitankulo_clear_run.Goals as goal
 
 pub run_held-requires : goal.run_held-requires
 run_held-requires c =
-    held_long c.args.clear.now _ (sym c.decode-decoded.ensures ∙ c.decoded-1.given.1)
+    held_long c.args.clear.now _ (sym c.decode-decoded.ensures ∙ c.in-Held.is)
 
 pub returns-in-Foreign : goal.returns-in-Foreign
-returns-in-Foreign c = rw (← c.decode-decoded.ensures, c.enum_told-1.given.1) (refl, refl, refl, refl)
+returns-in-Foreign c = rw (← c.decode-decoded.ensures, c.in-Foreign.is) (refl, refl, refl, refl)
 
 pub returns-in-Held : goal.returns-in-Held
-returns-in-Held c = rw (← c.decode-decoded.ensures, c.decoded-1.given.1) c.run_held.ensures
+returns-in-Held c = rw (← c.decode-decoded.ensures, c.in-Held.is) c.run_held.ensures

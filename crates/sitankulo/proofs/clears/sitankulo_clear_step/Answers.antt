@@ -3,7 +3,7 @@ use mathlib.Core.Path.{refl}
 use Rattle.sitankulo.proofs.clears.sitankulo_clear_step.Goals as goal
 
 pub returns-in-Foreign : goal.returns-in-Foreign
-returns-in-Foreign c = rw (← c.decode-decoded.ensures, c.enum_told-1.given.1) (refl, refl, refl)
+returns-in-Foreign c = rw (← c.decode-decoded.ensures, c.in-Foreign.is) (refl, refl, refl)
 
 pub returns-in-Held : goal.returns-in-Held
-returns-in-Held c = rw (← c.decode-decoded.ensures, c.decoded-1.given.1) c.step_held.ensures
+returns-in-Held c = rw (← c.decode-decoded.ensures, c.in-Held.is) c.step_held.ensures

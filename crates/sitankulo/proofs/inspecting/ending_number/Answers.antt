@@ -4,4 +4,4 @@ use Rattle.sitankulo.proofs.inspecting.ending_number.Goals as goal
 
 pub returns-in-Finished : goal.returns-in-Finished
 returns-in-Finished c =
-    (rw (c.ending-1.given.1, ← c.phase_number.ensures) c.pack.ensures, omega (arith, c.pack.ensures))
+    (rw (c.in-Finished.is, ← c.phase_number.ensures) c.pack.ensures, omega (arith, c.pack.ensures))

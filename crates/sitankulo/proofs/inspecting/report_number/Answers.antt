@@ -2,4 +2,4 @@
 use Rattle.sitankulo.proofs.inspecting.report_number.Goals as goal
 
 pub returns-in-Ran : goal.returns-in-Ran
-returns-in-Ran c = rw (c.told-1.given.1, c.ending_number-number.ensures.0)
+returns-in-Ran c = rw (c.in-Ran.is, c.ending_number-number.ensures.0)

@@ -2,4 +2,4 @@
 use Rattle.sitankulo.proofs.inspecting.verdict_number.Goals as goal
 
 pub returns-in-Passes : goal.returns-in-Passes
-returns-in-Passes c = rw (c.verdict-1.given.1, ← c.phase_number.ensures) c.pack.ensures
+returns-in-Passes c = rw (c.in-Passes.is, ← c.phase_number.ensures) c.pack.ensures

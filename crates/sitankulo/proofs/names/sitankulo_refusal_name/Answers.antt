@@ -6,59 +6,59 @@ use Rattle.sitankulo.proofs.names.sitankulo_refusal_name.Goals as goal
 
 pub returns-in-1 : goal.returns-in-1
 unfolding name_of
-returns-in-1 c = rw c.in_default.keys1 c.tell.ensures
+returns-in-1 c = rw c.in-1.is c.tell.ensures
 
 pub returns-in-2 : goal.returns-in-2
 unfolding name_of
-returns-in-2 c = rw c.in_default.keys2 c.tell-in-2.ensures
+returns-in-2 c = rw c.in-2.is c.tell-in-2.ensures
 
 pub returns-in-3 : goal.returns-in-3
 unfolding name_of
-returns-in-3 c = rw c.in_default.keys3 c.tell-in-3.ensures
+returns-in-3 c = rw c.in-3.is c.tell-in-3.ensures
 
 pub returns-in-4 : goal.returns-in-4
 unfolding name_of
-returns-in-4 c = rw c.in_default.keys4 c.tell-in-4.ensures
+returns-in-4 c = rw c.in-4.is c.tell-in-4.ensures
 
 pub returns-in-5 : goal.returns-in-5
 unfolding name_of
-returns-in-5 c = rw c.in_default.keys5 c.tell-in-5.ensures
+returns-in-5 c = rw c.in-5.is c.tell-in-5.ensures
 
 pub returns-in-6 : goal.returns-in-6
 unfolding name_of
-returns-in-6 c = rw c.in_default.keys6 c.tell-in-6.ensures
+returns-in-6 c = rw c.in-6.is c.tell-in-6.ensures
 
 pub returns-in-7 : goal.returns-in-7
 unfolding name_of
-returns-in-7 c = rw c.in_default.keys7 c.tell-in-7.ensures
+returns-in-7 c = rw c.in-7.is c.tell-in-7.ensures
 
 pub returns-in-8 : goal.returns-in-8
 unfolding name_of
-returns-in-8 c = rw c.in_default.keys8 c.tell-in-8.ensures
+returns-in-8 c = rw c.in-8.is c.tell-in-8.ensures
 
 pub returns-in-9 : goal.returns-in-9
 unfolding name_of
-returns-in-9 c = rw c.in_default.keys9 c.tell-in-9.ensures
+returns-in-9 c = rw c.in-9.is c.tell-in-9.ensures
 
 pub returns-in-10 : goal.returns-in-10
 unfolding name_of
-returns-in-10 c = rw c.in_default.keys10 c.tell-in-10.ensures
+returns-in-10 c = rw c.in-10.is c.tell-in-10.ensures
 
 pub returns-in-11 : goal.returns-in-11
 unfolding name_of
-returns-in-11 c = rw c.in_default.keys11 c.tell-in-11.ensures
+returns-in-11 c = rw c.in-11.is c.tell-in-11.ensures
 
 pub returns-in-12 : goal.returns-in-12
 unfolding name_of
-returns-in-12 c = rw c.in_default.keys12 c.tell-in-12.ensures
+returns-in-12 c = rw c.in-12.is c.tell-in-12.ensures
 
 pub returns-in-13 : goal.returns-in-13
 unfolding name_of
-returns-in-13 c = rw c.in_default.keys13 c.tell-in-13.ensures
+returns-in-13 c = rw c.in-13.is c.tell-in-13.ensures
 
 pub returns-in-14 : goal.returns-in-14
 unfolding name_of
-returns-in-14 c = rw c.in_default.keys14 c.tell-in-14.ensures
+returns-in-14 c = rw c.in-14.is c.tell-in-14.ensures
 
 pub returns-in_default : goal.returns-in_default
 unfolding name_of

@@ -15,7 +15,7 @@ unfolding laid
 returns c =
     let timed = c in
     let flagged = timed in
-    let start = flagged in
+    let start = flagged.before.before in
     let state = start.args.state.now in
     let flags = flagged.flags_of.result in
     let long : 25 ≤ length (set state 0 flags) = rw length-set start.requires in

@@ -17,9 +17,9 @@ unfolding is_record
 returns c =
     let placed = c in
     let fixed = placed in
-    let due = fixed in
-    let long = due.if-state-lt-SIZE.false in
-    let state = due.args.state.now in
+    let due = fixed.before in
+    let long = due.before.before.if-state-lt-SIZE.false in
+    let state = due.before.before.before.before.args.state.now in
     let said : c.progress_by-progress.result ≡ record_in state
     = c.progress_by-progress.ensures
     ∙ rw (time_there state 1 _ (omega (arith, long)) placed.time_at.ensures, time_there state 9 _ (omega (arith, long)) due.time_at-due.ensures, time_there state 17 _ (omega (arith, long)) fixed.time_at-fixed.ensures) in (

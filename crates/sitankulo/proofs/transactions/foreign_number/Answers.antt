@@ -6,10 +6,8 @@ use Rattle.sitankulo.proofs.transactions.foreign_number.Goals as goal
 pub returns-in-Refused : goal.returns-in-Refused
 returns-in-Refused c =
     let args = c.args in
-    let refusal = c.verdict-1.given in
-    c.number.ensures ∙ foreign_refused args.address args.script.now refusal.0.0 (sym refusal.1 ∙ c.read_script-verdict.ensures)
+    c.number.ensures ∙ foreign_refused args.address args.script.now c.in-Refused.refusal (sym c.in-Refused.is ∙ c.read_script-verdict.ensures)
 
 pub returns-in-Accepted : goal.returns-in-Accepted
 returns-in-Accepted c =
-    let accepted = c.enum_told-1.given in
-    foreign_accepted c.args.address c.args.script.now accepted.0.0 (sym accepted.1 ∙ c.read_script-verdict.ensures)
+    foreign_accepted c.args.address c.args.script.now c.in-Accepted.field-0 (sym c.in-Accepted.is ∙ c.read_script-verdict.ensures)

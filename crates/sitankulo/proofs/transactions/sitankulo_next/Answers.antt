@@ -93,7 +93,7 @@ pub returns : goal.returns
 returns c =
     let stored = c in
     let handed = stored in
-    let called = handed in
-    next_listed _ _ _ _ (began called).args.words.now (began called).args.fifo.now (known (goal.at.returns c).After-next_number-number) (ours (goal.at.returns c).After-next_number-number) _ (made (goal.at.returns c).After-next_number-number) _ called.next_number-number.ensures handed.if-number-ne0.false
-    handed.if-words-lt-WORDS.false handed.if-fifo-count.false (few (goal.at.returns c).After-next_number-number) _ _ _
+    let called = handed.before.before.before.before in
+    next_listed _ _ _ _ (began called).args.words.now (began called).args.fifo.now (known (goal.at.returns c).After-next_number-number) (ours (goal.at.returns c).After-next_number-number) _ (made (goal.at.returns c).After-next_number-number) _ called.next_number-number.ensures handed.before.before.before.if-number-ne0.false
+    handed.before.if-words-lt-WORDS.false handed.if-fifo-count.false (few (goal.at.returns c).After-next_number-number) _ _ _
     stored.encode.ensures c.put_words.ensures c.put_bytes.ensures

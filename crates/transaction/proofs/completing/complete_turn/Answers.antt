@@ -5,10 +5,6 @@ use lib.ListN.{length}
 use Rattle.refusal.specs.declared.Refusal.TheVariants.{Shape, Room, OutOfTurn}
 use Rattle.transaction.proofs.LawsStanding.{off, on}
 use Rattle.transaction.proofs.LawsTurn.{lands_inside, told_misplaced, told_out_of_turn, told_no_room, told_settled, laid_settled, told_turn, refused_keeps}
-use Rattle.transaction.proofs.completing.refuse.Reads as refuse-reads
-use Rattle.transaction.proofs.completing.settle.Reads as settle-reads
-use Rattle.transaction.proofs.walk.is_misplaced.Reads as is-misplaced-reads
-use Rattle.transaction.proofs.walk.locate.Reads as locate-reads
 use Rattle.transaction.proofs.completing.complete_turn.Goals as goal
 
 pub returns-then-is_misplaced : goal.returns-then-is_misplaced

@@ -6,7 +6,7 @@ use lib.Seq.{paste}
 use Rattle.transaction.proofs.completing.copy.Given as goal
 
 abbrev pub invariant-loop-i : goal.invariant-loop-i
-invariant-loop-i l =     (l.i ≤ length l.initial.part) × (length l.part ≡ length l.initial.part) × (l.part ≡ paste l.initial.part 0 l.received l.i)
+invariant-loop-i l = (l.i ≤ length l.initial.part) × (length l.part ≡ length l.initial.part) × (l.part ≡ paste l.initial.part 0 l.received l.i)
 
 abbrev pub decreases-loop-i : goal.decreases-loop-i
 decreases-loop-i l = length l.initial.part - l.i

@@ -1,5 +1,4 @@
 -- `transaction::completing::fail_with` meets its contract.
-use Rattle.transaction.proofs.completing.fail.Reads as fail-reads
 use Rattle.transaction.proofs.completing.fail_with.Goals as goal
 
 pub returns : goal.returns

@@ -2,9 +2,6 @@
 use lib.ListN.{length}
 use lib.Seq.{paste}
 use Rattle.transaction.proofs.LawsCompletion.{too_few, enough, pasted}
-use Rattle.transaction.proofs.completing.copy.Reads as copy-reads
-use Rattle.transaction.proofs.completing.fail_with.Reads as fail-with-reads
-use Rattle.transaction.proofs.completing.succeed.Reads as succeed-reads
 use Rattle.transaction.proofs.completing.land.Goals as goal
 
 pub returns-then-received-n : goal.returns-then-received-n

@@ -4,10 +4,6 @@ use lib.Seq.{paste}
 use Rattle.outcome.specs.Outcomes.{received_of}
 use Rattle.transaction.specs.Walk.{takes, lands_at}
 use Rattle.transaction.proofs.LawsCompletion.{told_pending, told_failed, told_done}
-use Rattle.outcome.proofs.classify.Reads as classify-reads
-use Rattle.transaction.proofs.completing.fail_with.Reads as fail-with-reads
-use Rattle.transaction.proofs.completing.finish.Reads as finish-reads
-use Rattle.transaction.proofs.completing.wait.Reads as wait-reads
 use Rattle.transaction.proofs.completing.settle.Goals as goal
 
 pub returns-in-Pending : goal.returns-in-Pending
@@ -16,7 +12,7 @@ returns-in-Pending c =
     let args = c.args in
     let told = c.classify-classified.result in
     told_pending told (received_of (takes args.found) (length args.received.now)) args.p c.wait.result args.buffer.now
-    (paste args.buffer.now (lands_at args.found) args.received.now (takes args.found)) c.enum_told-1.given.1 c.wait.ensures)
+    (paste args.buffer.now (lands_at args.found) args.received.now (takes args.found)) c.in-Pending.is c.wait.ensures)
 
 pub returns-in-Failed : goal.returns-in-Failed
 returns-in-Failed c =
@@ -24,7 +20,7 @@ returns-in-Failed c =
     let args = c.args in
     let told = c.classify-classified.result in
     told_failed told (received_of (takes args.found) (length args.received.now)) args.p c.fail_with.result args.buffer.now
-    (paste args.buffer.now (lands_at args.found) args.received.now (takes args.found)) c.told-1.given.0.0 c.told-1.given.1 c.fail_with.ensures)
+    (paste args.buffer.now (lands_at args.found) args.received.now (takes args.found)) c.in-Failed.error c.in-Failed.is c.fail_with.ensures)
 
 pub returns-in-Done : goal.returns-in-Done
 returns-in-Done c =
@@ -32,4 +28,4 @@ returns-in-Done c =
     let args = c.args in
     let told = c.classify-classified.result in
     told_done told (received_of (takes args.found) (length args.received.now)) args.p c.finish.result args.buffer.now
-    (paste args.buffer.now (lands_at args.found) args.received.now (takes args.found)) _ c.enum_told-in-Done-1.given.1 c.finish.ensures)
+    (paste args.buffer.now (lands_at args.found) args.received.now (takes args.found)) _ c.in-Done.is c.finish.ensures)

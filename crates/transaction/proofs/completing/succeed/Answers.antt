@@ -1,5 +1,4 @@
 -- `transaction::completing::succeed` meets its contract.
-use Rattle.transaction.proofs.completing.advance.Reads as advance-reads
 use Rattle.transaction.proofs.completing.succeed.Goals as goal
 
 pub returns : goal.returns

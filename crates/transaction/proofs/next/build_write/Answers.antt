@@ -3,7 +3,6 @@ use Prim.Native.Nat.{◌+◌, ◌-◌}
 use native.Mathlib.Omega.{arith}
 use mathlib.Core.Path.{◌≡◌, ap}
 use Rattle.list.specs.declared.Built.{Built}
-use Rattle.list.proofs.write_operation.Reads as write-operation-reads
 use Rattle.transaction.proofs.next.build_write.Goals as goal
 
 pub returns : goal.returns

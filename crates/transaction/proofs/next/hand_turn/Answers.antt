@@ -5,13 +5,6 @@ use lib.ListN.{length}
 use Rattle.turns.specs.Turns.{Turn}
 use Rattle.transaction.specs.Calls.{turn_handed}
 use Rattle.transaction.proofs.LawsTurn.{size_most, outstanding_out, failed_out, handed_misplaced, handed_out_of_turn, handed_none, handed_list}
-use Rattle.transaction.proofs.next.hand_out.Reads as hand-out-reads
-use Rattle.transaction.proofs.deadlines.list_due.Reads as list-due-reads
-use Rattle.transaction.proofs.walk.is_misplaced.Reads as is-misplaced-reads
-use Rattle.transaction.proofs.walk.is_over.Reads as is-over-reads
-use Rattle.transaction.proofs.walk.locate.Reads as locate-reads
-use Rattle.transaction.proofs.walk.size_of.Reads as size-of-reads
-use Rattle.transaction.proofs.next.without_list.Reads as without-list-reads
 use Rattle.transaction.proofs.next.hand_turn.Goals as goal
 
 pub returns-then-is_misplaced : goal.returns-then-is_misplaced
@@ -57,14 +50,14 @@ pub list_due-timing-requires : goal.list_due-timing-requires
 list_due-timing-requires c =
     let args = c.args in
     let found = c.locate-found in
-    omega (arith, c.type_size.ensures, size_most (length args.script.now) found.result found.ensures.1)
+    omega (arith, c.size_of.ensures, size_most (length args.script.now) found.result found.ensures.1)
 
 pub returns : goal.returns
 returns c =
     let args = c.args in
     let found = c.locate-found in
     c.hand_out.ensures
-    ∙ rw (c.list_due-timing.ensures, c.type_size.ensures)
+    ∙ rw (c.list_due-timing.ensures, c.size_of.ensures)
     (handed_list args.script.now args.p args.settings args.address args.time c.if-p.false c.if-p-2.false found.result found.ensures.1
     (sym c.is_over.ensures ∙ c.if-is_over.false))
     ∙ ap (λ (t : Turn). turn_handed t args.p args.settings args.address args.time) found.ensures.0

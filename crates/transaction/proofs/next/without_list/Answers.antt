@@ -1,5 +1,4 @@
 -- `transaction::next::without_list` meets its contract.
-use Rattle.transaction.proofs.next.no_list.Reads as no-list-reads
 use Rattle.transaction.proofs.next.without_list.Goals as goal
 
 pub returns : goal.returns

@@ -2,8 +2,6 @@
 use mathlib.Core.Path.{◌∙◌}
 use native.Mathlib.Omega.{arith}
 use Rattle.transaction.proofs.LawsOperation.{lists_of_pieces}
-use Rattle.chunks.proofs.count_pieces.Reads as count-pieces-reads
-use Rattle.transaction.proofs.walk.count_empty.Reads as count-empty-reads
 use Rattle.transaction.proofs.walk.count_lists.Goals as goal
 
 pub returns-then-size-eq0 : goal.returns-then-size-eq0

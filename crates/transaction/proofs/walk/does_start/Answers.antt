@@ -7,14 +7,14 @@ use Rattle.transaction.proofs.walk.does_start.Goals as goal
 pub returns-then-reads : goal.returns-then-reads
 returns-then-reads c =
     let args = c.args in
-    sym (starts_after args args.reads true c.if-before.true c.if-reads.true)
+    sym (starts_after args.before args.reads true c.if-before.true c.if-reads.true)
 
 pub returns-then-before : goal.returns-then-before
 returns-then-before c =
     let args = c.args in
-    sym (starts_after args args.reads false c.if-before.true c.if-reads.false)
+    sym (starts_after args.before args.reads false c.if-before.true c.if-reads.false)
 
 pub returns : goal.returns
 returns c =
     let args = c.args in
-    sym (starts_first args args.reads c.if-before.false)
+    sym (starts_first args.before args.reads c.if-before.false)

@@ -1,6 +1,4 @@
 -- `transaction::walk::flags_of` meets its contract.
-use Rattle.transaction.proofs.walk.does_start.Reads as does-start-reads
-use Rattle.transaction.proofs.walk.is_read.Reads as is-read-reads
 use Rattle.transaction.proofs.walk.flags_of.Goals as goal
 
 pub returns : goal.returns

@@ -17,7 +17,7 @@ pub returns-then-left-eq0 : goal.returns-then-left-eq0
 returns-then-left-eq0 c =
     let args = c.args in
     let l = c.loop-ahead in (
-      standing_over args.script.now args.place l l.ahead l.left l.landing l.invariant c.if-not-ahead.true c.if-left-eq0.true,
+      standing_over args.script.now args.place l.before l.ahead l.left l.landing l.invariant c.if-not-ahead.true c.if-left-eq0.true,
       tt,
       (λ t. absurd (false≢true t)),
     )
@@ -26,7 +26,7 @@ pub returns-then-not-ahead : goal.returns-then-not-ahead
 returns-then-not-ahead c =
     let args = c.args in
     let l = c.loop-ahead in (
-      standing_beyond args.script.now args.place l l.ahead l.left l.landing l.invariant c.if-not-ahead.true c.if-left-eq0.false,
+      standing_beyond args.script.now args.place l.before l.ahead l.left l.landing l.invariant c.if-not-ahead.true c.if-left-eq0.false,
       tt,
       (λ t. absurd (false≢true t)),
     )
@@ -43,7 +43,7 @@ here c =
     let l = c.loop-ahead in
     let following = c.next_kept-following in
     let flags = c.flags_of-flags in
-    onward args.script.now args.place l l.ahead l.left l.landing l.invariant c.if-not-ahead.false
+    onward args.script.now args.place l.before l.ahead l.left l.landing l.invariant c.if-not-ahead.false
     following.result following.ensures flags.result flags.ensures c.count_lists-lists.result c.count_lists-lists.ensures
     c.requires.1
 

@@ -9,4 +9,4 @@ abbrev pub invariant-loop-ahead : goal.invariant-loop-ahead
 invariant-loop-ahead l = Standing l.script l.place l.before l.ahead l.left l.landing
 
 abbrev pub decreases-loop-ahead : goal.decreases-loop-ahead
-decreases-loop-ahead l =     2 * (length l.script - l.ahead.next) + cond l.ahead.there 1 0
+decreases-loop-ahead l = 2 * (length l.script - l.ahead.next) + cond l.ahead.there 1 0

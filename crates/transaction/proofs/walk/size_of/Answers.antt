@@ -2,7 +2,7 @@
 use Rattle.transaction.proofs.walk.size_of.Goals as goal
 
 pub returns-in-Write : goal.returns-in-Write
-returns-in-Write c = rw c.found-1.given.1
+returns-in-Write c = rw c.in-Write.is
 
 pub returns-in-Read : goal.returns-in-Read
-returns-in-Read c = rw c.found-in-Read-1.given.1
+returns-in-Read c = rw c.in-Read.is
