@@ -20,6 +20,7 @@ use Rattle.bus_clear.specs.declared.run.Ending.TheVariants.{Ready, GivenUp, Spen
 use Rattle.bus_clear.specs.declared.run.Terms.{Terms}
 use Rattle.bus_clear.specs.Pins.{change_bytes}
 use Rattle.bus_clear.specs.Clear.{fresh_of, step_of}
+use Rattle.controller.specs.declared.model.Ending.{Ending as ModelEnding}
 use Rattle.controller.specs.declared.model.Ending.TheVariants.{Stuck, Refused, Finished}
 use Rattle.controller.specs.declared.model.Answer.TheVariants.{Ran}
 use Rattle.controller.specs.declared.model.Report.{Report}

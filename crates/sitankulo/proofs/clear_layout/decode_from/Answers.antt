@@ -1,4 +1,5 @@
 -- `sitankulo::clear_layout::decode_from` meets its contract.
+use native.Mathlib.Omega.{arith}
 use borrow.Author.Tests.{ne_eqb}
 use Rattle.sitankulo.specs.ClearLayout.{decoded_from}
 use Rattle.sitankulo.proofs.clear_layout.decode_from.Goals as goal
@@ -22,5 +23,4 @@ returns-in-3 c = rw c.in-3.is c.hold-in-3.ensures
 pub returns-in_default : goal.returns-in_default
 unfolding decoded_from
 returns-in_default c =
-    let none = c.in_default.rest in
-    simp (ne_eqb _ 0 none.0.0.0.1, ne_eqb _ 1 none.0.0.1, ne_eqb _ 2 none.0.1, ne_eqb _ 3 none.1)
+    simp (ne_eqb _ 0 (λ e. omega arith), ne_eqb _ 1 (λ e. omega arith), ne_eqb _ 2 (λ e. omega arith), ne_eqb _ 3 (λ e. omega arith))

@@ -15,7 +15,7 @@ returns-in-NoRoom c =
     let p = polled_over args.terms args.clocks.now args.levels.now args.held in
     let run = c.run-ran in
     short_changes args.terms p args.clear.now args.changes.now args.report.now c.if-report-lt-REPORT.false
-    args.held run.result run.ensures.0 _ run.ensures.1 c.in-NoRoom.is
+    args.held run.result run.ensures.value _ run.ensures.memory_after c.in-NoRoom.is
 
 pub returns-in-Ran : goal.returns-in-Ran
 returns-in-Ran c =
@@ -23,5 +23,5 @@ returns-in-Ran c =
     let p = polled_over args.terms args.clocks.now args.levels.now args.held in
     let run = c.run-ran in
     ran_through args.terms p args.clear.now args.changes.now args.report.now c.if-report-lt-REPORT.false
-    args.held run.result run.ensures.0 _ run.ensures.1 _ c.in-Ran.is
+    args.held run.result run.ensures.value _ run.ensures.memory_after _ c.in-Ran.is
     c.ending_number.result _ _ c.ending_number.ensures c.put_clear.ensures c.put_report.ensures

@@ -23,5 +23,5 @@ returns c =
     let args = c.args in
     let numbered = c.numbered-number in
     handed_out args.built args.words.now args.fifo.now numbered.result numbered.ensures
-    c.if-number-ne0.false c.if-words-lt-WORDS.false c.if-fifo-count.false (omega (arith, slice-aggregate-put-bytes c))
+    c.if-number-ne0.false c.if-words-lt-WORDS.false c.if-fifo-count.false (omega arith)
     c.pack.result _ _ c.pack.ensures c.put_words.ensures c.put_bytes.ensures

@@ -63,7 +63,6 @@ returns-in-14 c = rw c.in-14.is c.tell-in-14.ensures
 pub returns-in_default : goal.returns-in_default
 unfolding name_of
 returns-in_default c =
-    let none = c.in_default.rest in
     let name = name_of c.args.number in
     untold name c.args.text.now
-    (simp (ne_eqb _ 1 none.0.0.0.0.0.0.0.0.0.0.0.0.0.1, ne_eqb _ 2 none.0.0.0.0.0.0.0.0.0.0.0.0.1, ne_eqb _ 3 none.0.0.0.0.0.0.0.0.0.0.0.1, ne_eqb _ 4 none.0.0.0.0.0.0.0.0.0.0.1, ne_eqb _ 5 none.0.0.0.0.0.0.0.0.0.1, ne_eqb _ 6 none.0.0.0.0.0.0.0.0.1, ne_eqb _ 7 none.0.0.0.0.0.0.0.1, ne_eqb _ 8 none.0.0.0.0.0.0.1, ne_eqb _ 9 none.0.0.0.0.0.1, ne_eqb _ 10 none.0.0.0.0.1, ne_eqb _ 11 none.0.0.0.1, ne_eqb _ 12 none.0.0.1, ne_eqb _ 13 none.0.1, ne_eqb _ 14 none.1))
+    (simp (ne_eqb _ 1 (λ e. omega arith), ne_eqb _ 2 (λ e. omega arith), ne_eqb _ 3 (λ e. omega arith), ne_eqb _ 4 (λ e. omega arith), ne_eqb _ 5 (λ e. omega arith), ne_eqb _ 6 (λ e. omega arith), ne_eqb _ 7 (λ e. omega arith), ne_eqb _ 8 (λ e. omega arith), ne_eqb _ 9 (λ e. omega arith), ne_eqb _ 10 (λ e. omega arith), ne_eqb _ 11 (λ e. omega arith), ne_eqb _ 12 (λ e. omega arith), ne_eqb _ 13 (λ e. omega arith), ne_eqb _ 14 (λ e. omega arith)))

@@ -3,7 +3,6 @@ use native.Mathlib.Omega.{arith}
 use mathlib.Core.Path.{◌≡◌, sym, ◌∙◌}
 use mathlib.Core.Bool.{true}
 use lib.ListN.{length}
-use borrow.Author.Tests.{not-true, not-false}
 use Rattle.sitankulo.specs.Records.{record_in, is_record}
 use Rattle.sitankulo.specs.Transactions.{completed_for, landed_for}
 use Rattle.sitankulo.proofs.LawsRecords.{record_long}
@@ -12,36 +11,33 @@ use Rattle.sitankulo.proofs.LawsComplete.{not_landed, complete_misfit, complete_
 use Rattle.sitankulo.proofs.transactions.sitankulo_complete.Goals.{After-complete-completed}
 use Rattle.sitankulo.proofs.transactions.sitankulo_complete.Goals as goal
 
-abbrev began : tie.After-complete → tie.Start
-began c = c.before.before.before.before.before.before.before.before.before.before.before.before.before.before
-
-fit : (c : After-complete-completed) → length (began c).args.commands.now ≡ 32
+fit : (c : After-complete-completed) → length c.args.commands.now ≡ 32
 fit c = c.if-commands-ne-WORDS.false
 
-ours : (c : After-complete-completed) → is_record (began c).args.state.now ≡ true
-ours c = sym c.read-held.ensures.0 ∙ not-false _ c.if-not-held.false
+ours : (c : After-complete-completed) → is_record c.args.state.now ≡ true
+ours c = sym c.read-held.ensures.0 ∙ c.if-not-held.false
 
-said : (c : After-complete-completed) → c.read-held.result.progress-1 ≡ record_in (began c).args.state.now
-said c = c.read-held.ensures.1 (not-false _ c.if-not-held.false)
+said : (c : After-complete-completed) → c.read-held.result.progress ≡ record_in c.args.state.now
+said c = c.read-held.ensures.1 c.if-not-held.false
 
 made :
     (c : After-complete-completed)
     → c.complete-completed.result
-    ≡ completed_for (began c).args.state.now (began c).args.address (began c).args.script.now (began c).args.bits
-    (began c).args.commands.now (began c).args.time (began c).args.received.now (began c).args.buffer.now
+    ≡ completed_for c.args.state.now c.args.address c.args.script.now c.args.bits
+    c.args.commands.now c.args.time c.args.received.now c.args.buffer.now
 made c =
-    let args = (began c).args in
+    let args = c.args in
     c.complete-completed.ensures.0
     ∙ completed_for_lem args.state.now _ (said c) args.bits args.commands.now args.time _ c.snapshot_of.ensures
     args.address args.script.now args.received.now args.buffer.now
 
 lands :
     (c : After-complete-completed)
-    → c.complete-completed.new.1.1.1.1.1.0
-    ≡ landed_for (began c).args.state.now (began c).args.address (began c).args.script.now (began c).args.bits
-    (began c).args.commands.now (began c).args.time (began c).args.received.now (began c).args.buffer.now
+    → c.complete-completed.new.buffer
+    ≡ landed_for c.args.state.now c.args.address c.args.script.now c.args.bits
+    c.args.commands.now c.args.time c.args.received.now c.args.buffer.now
 lands c =
-    let args = (began c).args in
+    let args = c.args in
     c.complete-completed.ensures.1
     ∙ landed_for_lem args.state.now _ (said c) args.bits args.commands.now args.time _ c.snapshot_of.ensures
     args.address args.script.now args.received.now args.buffer.now
@@ -53,8 +49,7 @@ returns-then-commands-ne-WORDS c =
 
 pub returns-then-not-held : goal.returns-then-not-held
 returns-then-not-held c =
-    let tested = c in
-    complete_foreign _ _ _ _ _ _ tested.if-commands-ne-WORDS.false (sym tested.read-held.ensures.0 ∙ not-true _ c.if-not-held.true) c.foreign_number.result
+    complete_foreign _ _ _ _ _ _ c.if-commands-ne-WORDS.false (sym c.read-held.ensures.0 ∙ c.if-not-held.true) c.foreign_number.result
     c.foreign_number.ensures
 
 pub snapshot_of-requires : goal.snapshot_of-requires
@@ -62,20 +57,15 @@ snapshot_of-requires c = omega (arith, c.if-commands-ne-WORDS.false)
 
 pub returns-then-not-does_tell : goal.returns-then-not-does_tell
 returns-then-not-does_tell c =
-    let answered = c in
-    let called = answered in
-    complete_silent _ _ _ _ _ _ (fit (goal.at.returns-then-not-does_tell c).After-complete-completed) (ours (goal.at.returns-then-not-does_tell c).After-complete-completed) _ (made (goal.at.returns-then-not-does_tell c).After-complete-completed) _ answered.completion_answer-answer.ensures (not_landed _ _ _ _ _ _ _ _) _ (lands (goal.at.returns-then-not-does_tell c).After-complete-completed)
-    (sym c.does_tell.ensures ∙ not-true _ c.if-not-does_tell.true)
+    complete_silent _ _ _ _ _ _ (fit (goal.at.returns-then-not-does_tell c).After-complete-completed) (ours (goal.at.returns-then-not-does_tell c).After-complete-completed) _ (made (goal.at.returns-then-not-does_tell c).After-complete-completed) _ c.completion_answer-answer.ensures (not_landed _ _ _ _ _ _ _ _) _ (lands (goal.at.returns-then-not-does_tell c).After-complete-completed)
+    (sym c.does_tell.ensures ∙ c.if-not-does_tell.true)
 
 pub encode-requires : goal.encode-requires
 encode-requires c =
-    let called = c in
-    record_long (began called).args.state.now (ours (goal.at.encode-requires c).After-complete-completed)
+    record_long c.args.state.now (ours (goal.at.encode-requires c).After-complete-completed)
 
 pub returns : goal.returns
 returns c =
-    let answered = c in
-    let called = answered in
-    complete_told_lem _ _ _ _ _ _ (fit (goal.at.returns c).After-complete-completed) (ours (goal.at.returns c).After-complete-completed) _ (made (goal.at.returns c).After-complete-completed) _ answered.completion_answer-answer.ensures (not_landed _ _ _ _ _ _ _ _) _ (lands (goal.at.returns c).After-complete-completed)
-    (sym c.does_tell.ensures ∙ not-false _ c.if-not-does_tell.false)
+    complete_told_lem _ _ _ _ _ _ (fit (goal.at.returns c).After-complete-completed) (ours (goal.at.returns c).After-complete-completed) _ (made (goal.at.returns c).After-complete-completed) _ c.completion_answer-answer.ensures (not_landed _ _ _ _ _ _ _ _) _ (lands (goal.at.returns c).After-complete-completed)
+    (sym c.does_tell.ensures ∙ c.if-not-does_tell.false)
     _ c.encode.ensures

@@ -3,7 +3,6 @@ use Prim.Native.Nat.{◌≤◌}
 use native.Mathlib.Omega.{arith}
 use mathlib.Core.Path.{◌≡◌, sym, ◌∙◌}
 use mathlib.Core.Bool.{true}
-use borrow.Author.Tests.{not-true, not-false}
 use Rattle.sitankulo.specs.Records.{is_record}
 use Rattle.sitankulo.specs.Transactions.{handed_for}
 use Rattle.sitankulo.proofs.LawsHanded.{Few, few_handed}
@@ -13,31 +12,28 @@ use Rattle.sitankulo.proofs.LawsNext.{next_unknown, next_foreign, next_none, nex
 use Rattle.sitankulo.proofs.transactions.sitankulo_next.Goals.{After-next_number-number}
 use Rattle.sitankulo.proofs.transactions.sitankulo_next.Goals as goal
 
-abbrev began : tie.After-next-number → tie.Start
-began c = c.before.before.before.before.before.before.before.before.before.before.before.before.before
-
-known : (c : After-next_number-number) → (began c).args.deadline ≤ 2
+known : (c : After-next_number-number) → c.args.deadline ≤ 2
 known c = c.if-deadline-gt-LAST_KIND.false
 
-ours : (c : After-next_number-number) → is_record (began c).args.state.now ≡ true
-ours c = sym c.read-held.ensures.0 ∙ not-false _ c.if-not-held.false
+ours : (c : After-next_number-number) → is_record c.args.state.now ≡ true
+ours c = sym c.read-held.ensures.0 ∙ c.if-not-held.false
 
 made :
     (c : After-next_number-number)
     → c.next_list-handed.result
-    ≡ handed_for (began c).args.state.now (began c).args.deadline (began c).args.duration (began c).args.address
-    (began c).args.script.now (began c).args.time
+    ≡ handed_for c.args.state.now c.args.deadline c.args.duration c.args.address
+    c.args.script.now c.args.time
 made c =
     let read = c.read-held in
-    let args = (began c).args in
+    let args = c.args in
     c.next_list-handed.ensures
-    ∙ handed_for_lem args.state.now read.result.progress-1 (read.ensures.1 (not-false _ c.if-not-held.false))
+    ∙ handed_for_lem args.state.now read.result.progress (read.ensures.1 c.if-not-held.false)
     args.deadline args.duration args.address args.script.now args.time _ c.settings_of.ensures
 
-few : (c : After-next_number-number) → Few c.next_list-handed.result.list-1
+few : (c : After-next_number-number) → Few c.next_list-handed.result.list
 few c =
-    let args = (began c).args in
-    few_handed c.read-held.result.progress-1 c.settings_of.result
+    let args = c.args in
+    few_handed c.read-held.result.progress c.settings_of.result
     args.address args.time args.script.now c.next_list-handed.result c.next_list-handed.ensures
 
 pub returns-then-deadline-gt-LAST_KIND : goal.returns-then-deadline-gt-LAST_KIND
@@ -45,55 +41,41 @@ returns-then-deadline-gt-LAST_KIND c = next_unknown _ _ _ _ _ _ c.if-deadline-gt
 
 pub returns-then-not-held : goal.returns-then-not-held
 returns-then-not-held c =
-    let tested = c in
-    next_foreign _ _ _ _ _ _ tested.if-deadline-gt-LAST_KIND.false (sym tested.read-held.ensures.0 ∙ not-true _ c.if-not-held.true) c.foreign_number.result
+    next_foreign _ _ _ _ _ _ c.if-deadline-gt-LAST_KIND.false (sym c.read-held.ensures.0 ∙ c.if-not-held.true) c.foreign_number.result
     c.foreign_number.ensures
 
 pub returns-then-number-ne0 : goal.returns-then-number-ne0
 returns-then-number-ne0 c =
-    let called = c in
-    next_none _ _ _ _ _ _ (known (goal.at.returns-then-number-ne0 c).After-next_number-number) (ours (goal.at.returns-then-number-ne0 c).After-next_number-number) _ (made (goal.at.returns-then-number-ne0 c).After-next_number-number) _ called.next_number-number.ensures c.if-number-ne0.true
+    next_none _ _ _ _ _ _ (known (goal.at.returns-then-number-ne0 c).After-next_number-number) (ours (goal.at.returns-then-number-ne0 c).After-next_number-number) _ (made (goal.at.returns-then-number-ne0 c).After-next_number-number) _ c.next_number-number.ensures c.if-number-ne0.true
 
 pub returns-then-words-lt-WORDS : goal.returns-then-words-lt-WORDS
 returns-then-words-lt-WORDS c =
-    let called = c in
-    next_wordless _ _ _ _ _ _ (known (goal.at.returns-then-words-lt-WORDS c).After-next_number-number) (ours (goal.at.returns-then-words-lt-WORDS c).After-next_number-number) _ (made (goal.at.returns-then-words-lt-WORDS c).After-next_number-number) _ called.next_number-number.ensures c.if-number-ne0.false
+    next_wordless _ _ _ _ _ _ (known (goal.at.returns-then-words-lt-WORDS c).After-next_number-number) (ours (goal.at.returns-then-words-lt-WORDS c).After-next_number-number) _ (made (goal.at.returns-then-words-lt-WORDS c).After-next_number-number) _ c.next_number-number.ensures c.if-number-ne0.false
     c.if-words-lt-WORDS.true
 
 pub returns-then-fifo-count : goal.returns-then-fifo-count
 returns-then-fifo-count c =
-    let called = c in
-    next_roomless _ _ _ _ _ _ (known (goal.at.returns-then-fifo-count c).After-next_number-number) (ours (goal.at.returns-then-fifo-count c).After-next_number-number) _ (made (goal.at.returns-then-fifo-count c).After-next_number-number) _ called.next_number-number.ensures c.if-number-ne0.false
+    next_roomless _ _ _ _ _ _ (known (goal.at.returns-then-fifo-count c).After-next_number-number) (ours (goal.at.returns-then-fifo-count c).After-next_number-number) _ (made (goal.at.returns-then-fifo-count c).After-next_number-number) _ c.next_number-number.ensures c.if-number-ne0.false
     c.if-words-lt-WORDS.false c.if-fifo-count.true
 
 pub encode-requires : goal.encode-requires
 encode-requires c =
-    let called = c in
-    record_long (began called).args.state.now (ours (goal.at.encode-requires c).After-next_number-number)
+    record_long c.args.state.now (ours (goal.at.encode-requires c).After-next_number-number)
 
 pub slice_bounds-put_bytes-end : goal.slice_bounds-put_bytes-end
 slice_bounds-put_bytes-end c =
-    let handed = c in
-    let called = handed in
     sym (few (goal.at.slice_bounds-put_bytes-end c).After-next_number-number).1
 
 pub overflow_cast-result-2 : goal.overflow_cast-result-2
 overflow_cast-result-2 c =
-    let handed = c in
-    let called = handed in
     record { fits = omega (arith, (few (goal.at.overflow_cast-result-2 c).After-next_number-number).0) }
 
 pub overflow_mul-result : goal.overflow_mul-result
 overflow_mul-result c =
-    let handed = c in
-    let called = handed in
     record { fits = omega (arith, (few (goal.at.overflow_mul-result c).After-next_number-number).0) }
 
 pub returns : goal.returns
 returns c =
-    let stored = c in
-    let handed = stored in
-    let called = handed.before.before.before.before in
-    next_listed _ _ _ _ (began called).args.words.now (began called).args.fifo.now (known (goal.at.returns c).After-next_number-number) (ours (goal.at.returns c).After-next_number-number) _ (made (goal.at.returns c).After-next_number-number) _ called.next_number-number.ensures handed.before.before.before.if-number-ne0.false
-    handed.before.if-words-lt-WORDS.false handed.if-fifo-count.false (few (goal.at.returns c).After-next_number-number) _ _ _
-    stored.encode.ensures c.put_words.ensures c.put_bytes.ensures
+    next_listed _ _ _ _ c.args.words.now c.args.fifo.now (known (goal.at.returns c).After-next_number-number) (ours (goal.at.returns c).After-next_number-number) _ (made (goal.at.returns c).After-next_number-number) _ c.next_number-number.ensures c.if-number-ne0.false
+    c.if-words-lt-WORDS.false c.if-fifo-count.false (few (goal.at.returns c).After-next_number-number) _ _ _
+    c.encode.ensures c.put_words.ensures c.put_bytes.ensures
