@@ -1,29 +1,23 @@
 -- Laws of a trace, for citing: what it says of a run in the end.
 -- Assumes nothing.
-use Prim.Native.Nat.{ℕ, suc, ◌+◌, ◌-◌, ◌*◌, ◌≤◌, ◌<◌}
+use Prim.Native.Nat.{ℕ, suc, ◌+◌, ◌*◌, ◌≤◌, ◌<◌}
 use native.Mathlib.Numerals.{add-one}
 use native.Mathlib.Nat.{add-zero, zero-add}
 use native.Mathlib.Omega.{arith}
 use mathlib.Core.Path.{◌≡◌, refl, sym, ap, ◌∙◌}
-use mathlib.Core.Bool.{Bool, true, false, ◌&&◌, and-false}
+use mathlib.Core.Bool.{true, false, and-false}
 use mathlib.Core.List.{List, [], ◌∷◌, ◌++◌}
 use lib.ListN.{length, take, set, replicate, length-append, length-take, length-replicate}
 use lib.Seq.{sets, sets-eq, take-append_seam}
 use lib.Dec.{leb}
 use borrow.Author.Tests.{le-leb, lt-leb}
-use Rattle.bus.specs.Events.{Acknowledge, Event, start_bit, stop_bit, sent, got}
-use Rattle.command.specs.declared.Command.{Command}
-use Rattle.controller.specs.declared.Phase.{Phase}
-use Rattle.controller.specs.declared.Place.{Place}
+use Rattle.bus.specs.Events.{Event, start_bit, stop_bit, sent, got}
 use Rattle.controller.specs.declared.model.Answer.TheVariants.{Ran}
 use Rattle.controller.specs.declared.model.Trace.{Trace}
-use Rattle.controller.specs.declared.model.Bench.{Bench}
 use Rattle.controller.specs.declared.model.Traced.{Traced}
-use Rattle.controller.specs.Rules.{State, Effect}
-use Rattle.controller.specs.Places.{Inside}
-use Rattle.controller.specs.Model.{Sensor, Run, Commands, events_of}
+use Rattle.controller.specs.Model.{Run, events_of}
 use Rattle.controller.specs.Traces.{Reported, trace_roomless, sent_kind, got_kind, event_bytes, traffic_bytes, received_bytes, ending_of, left_of, trace_fits, laid}
-use Rattle.controller.specs.Tracing.{blank_trace, stored, heard, heard_all, traced, Within, Tells, ComesTo, Fits}
+use Rattle.controller.specs.Tracing.{blank_trace, heard, heard_all, traced, Tells}
 
 -- what a trace holds once events are heard: their bytes, stored one after another
 pair_stored :
@@ -67,13 +61,13 @@ all_got t (stop_bit ∷ es) = all_got (heard t stop_bit) es
 all_got t (sent b a ∷ es) = all_got (heard t (sent b a)) es
 all_got t (got b a ∷ es) = omega (arith, all_got (heard t (got b a)) es)
 
-all_received_lem : (t : Trace) (es : List Event) → (heard_all t es).received ≡ sets t.received t.got (received_bytes es)
+all_received : (t : Trace) (es : List Event) → (heard_all t es).received ≡ sets t.received t.got (received_bytes es)
 unfolding heard_all heard received_bytes
-all_received_lem t [] = refl
-all_received_lem t (start_bit ∷ es) = all_received_lem (heard t start_bit) es
-all_received_lem t (stop_bit ∷ es) = all_received_lem (heard t stop_bit) es
-all_received_lem t (sent b a ∷ es) = all_received_lem (heard t (sent b a)) es
-all_received_lem t (got b a ∷ es) = all_received_lem (heard t (got b a)) es ∙ rw (add-one t.got)
+all_received t [] = refl
+all_received t (start_bit ∷ es) = all_received (heard t start_bit) es
+all_received t (stop_bit ∷ es) = all_received (heard t stop_bit) es
+all_received t (sent b a ∷ es) = all_received (heard t (sent b a)) es
+all_received t (got b a ∷ es) = all_received (heard t (got b a)) es ∙ rw (add-one t.got)
 
 traffic_length : (es : List Event) → length (traffic_bytes es) ≡ length es * 2
 unfolding traffic_bytes
@@ -111,7 +105,7 @@ module _ {x : Traced} {r : Run} (told : Tells x r) where
   told_received : take x.trace.got x.trace.received ≡ received_bytes (events_of r)
   unfolding traced
   told_received =
-      let held : x.trace.received ≡ sets (replicate 32 0) 0 (received_bytes (events_of r)) = rw told.all (all_received_lem blank_trace (events_of r)) in
+      let held : x.trace.received ≡ sets (replicate 32 0) 0 (received_bytes (events_of r)) = rw told.all (all_received blank_trace (events_of r)) in
       rw held (stored_front _ 32 x.trace.got told_got (omega arith))
 
   -- so the arrays have these parts

@@ -1,26 +1,22 @@
 -- Laws of what a command spends, for citing: there is room in the trace for all that a list causes.
 -- Assumes nothing.
-use Prim.Native.Nat.{ℕ, ◌+◌, ◌-◌, ◌*◌, ◌≤◌, ◌<◌}
+use Prim.Native.Nat.{ℕ, ◌+◌, ◌≤◌, ◌<◌}
 use native.Mathlib.Omega.{arith}
-use mathlib.Core.Path.{◌≡◌, refl, ◌∙◌}
+use mathlib.Core.Path.{◌≡◌, refl}
 use mathlib.Core.Bool.{Bool, true, false, cond, ◌&&◌, and-eq-true_iff}
-use mathlib.Core.List.{List, [], ◌∷◌, ◌++◌}
+use mathlib.Core.List.{List}
 use lib.ListN.{length, get_or, length-drop}
 use lib.Dec.{leb, eqb}
 use borrow.Author.Tests.{leb-true}
-use Rattle.bus.specs.Events.{Acknowledge, Event, got}
 use Rattle.command.specs.declared.Command.{Command}
 use Rattle.command.specs.declared.Command.TheVariants.{Start, Write, Read, ReadNack, Stop, End}
 use Rattle.controller.specs.declared.Phase.{Phase}
 use Rattle.controller.specs.declared.Place.{Place}
 use Rattle.controller.specs.declared.model.Trace.{Trace}
 use Rattle.controller.specs.declared.model.Bench.{Bench}
-use Rattle.controller.specs.declared.model.Traced.{Traced}
 use Rattle.controller.specs.Rules.{State, Effect, halts, goes_on, finishes, may_start, may_write, may_read, may_stop, may_end, effect_of}
 use Rattle.controller.specs.Places.{state_at, Inside}
-use Rattle.controller.specs.Model.{Sensor, Run, Commands}
-use Rattle.controller.specs.Traces.{Reported}
-use Rattle.controller.specs.Tracing.{Within, Tells, ComesTo, written_by, received_by, events_by, Fits}
+use Rattle.controller.specs.Tracing.{Within, written_by, received_by, events_by, Fits}
 
 -- what a command has used of the FIFO and of the bytes that may be received, where its effect is to go on or to finish the list
 abbrev Spent : Command → State → Effect → Type 0

@@ -1,29 +1,26 @@
 -- Laws of a run that the code holds as a trace, for citing: what each byte and each word adds.
 -- Assumes nothing.
-use Prim.Native.Nat.{ℕ, zero, suc, ◌+◌, ◌-◌, ◌*◌, ◌≤◌, ◌<◌}
+use Prim.Native.Nat.{ℕ, zero, suc, ◌+◌, ◌-◌, ◌≤◌, ◌<◌}
 use native.Mathlib.Numerals.{add-one, sub-one}
 use native.Mathlib.Omega.{arith}
-use mathlib.Core.Path.{◌≡◌, refl, ◌∙◌}
-use mathlib.Core.Bool.{Bool, true, false, ◌&&◌}
-use mathlib.Core.List.{List, [], ◌∷◌, ◌++◌}
+use mathlib.Core.Path.{◌≡◌, refl}
+use mathlib.Core.Bool.{true, false}
+use mathlib.Core.List.{List, ◌∷◌}
 use lib.ListN.{length, get_or, drop, drop_of_length-le}
 use lib.Seq.{drop-cons, drop-drop}
 use borrow.Author.Tests.{le-leb, lt-leb}
-use Rattle.bus.specs.Events.{Acknowledge, ack, nack, Event, got}
+use Rattle.bus.specs.Events.{Acknowledge, ack, nack}
 use Rattle.bus.specs.Traffic.{next_byte}
 use Rattle.command.specs.declared.Command.{Command}
 use Rattle.command.specs.declared.Meaning.TheVariants.{Planned, Malformed}
 use Rattle.command.specs.Word.{meaning_of}
 use Rattle.controller.specs.declared.Phase.{Phase}
-use Rattle.controller.specs.declared.Place.{Place}
 use Rattle.controller.specs.declared.model.Trace.{Trace}
 use Rattle.controller.specs.declared.model.Bench.{Bench}
-use Rattle.controller.specs.declared.model.Traced.{Traced}
-use Rattle.controller.specs.Rules.{State, Effect, halts, goes_on, finishes, effect_of}
-use Rattle.controller.specs.Places.{Inside}
+use Rattle.controller.specs.Rules.{State, halts, goes_on, finishes, effect_of}
 use Rattle.controller.specs.Model.{Sensor, Run, stuck, refused, done, put, get, obey, run_from, Commands, run_list, events_of}
-use Rattle.controller.specs.Traces.{Reported, sent_kind, got_kind}
-use Rattle.controller.specs.Tracing.{noted, stored, heard, heard_all, traced, Within, Tells, sensor_at, resumed, ComesTo, Fits}
+use Rattle.controller.specs.Traces.{sent_kind, got_kind}
+use Rattle.controller.specs.Tracing.{noted, stored, heard, heard_all, traced, sensor_at, resumed, ComesTo}
 
 module _ (next : Sensor → Run) where
   -- the bytes from place i on: past the last, the next follows. The one at i is refused where the countdown is at 1; else the

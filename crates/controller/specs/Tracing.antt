@@ -4,14 +4,11 @@ use Rattle.bus.specs.Events.{Event, start_bit, stop_bit, sent, got}
 use Rattle.command.specs.declared.Command.{Command}
 use Rattle.command.specs.declared.Command.TheVariants.{Start, Write, Read, ReadNack, Stop, End}
 use Rattle.controller.specs.declared.Place.{Place}
-use Rattle.controller.specs.declared.model.Answer.TheVariants.{NoRoom}
-use Rattle.controller.specs.declared.model.Report.{Report}
 use Rattle.controller.specs.declared.model.Trace.{Trace}
 use Rattle.controller.specs.declared.model.Bench.{Bench}
 use Rattle.controller.specs.declared.model.Traced.{Traced}
 use Rattle.controller.specs.Model.{Sensor, Run, refused, events_of}
-use Rattle.controller.specs.Verdicts.{run_one}
-use Rattle.controller.specs.Traces.{sent_kind, got_kind, traffic_bytes, received_bytes, ending_of, left_of, trace_fits, trace_report, laid}
+use Rattle.controller.specs.Traces.{sent_kind, got_kind, ending_of, left_of}
 
 abbrev pub blank_trace : Trace
 blank_trace = record { events = replicate 144 0; count = 0; received = replicate 32 0; got = 0 }

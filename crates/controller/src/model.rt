@@ -149,7 +149,7 @@ fn count_down(refuses: usize) -> usize
 // Sends the bytes, up to the one that the sensor refuses.
 fn send_bytes(bytes: &[u8], bench: Bench) -> Bench
     requires { (bench.cut ≡ false) × (bench.trace.count + length bytes.now ≤ 72) }
-    ensures by_index { (sends : List ℕ) → ComesTo bench sends (λ k. put bytes.now k.sends k.refuses) result }
+    ensures comes_to { (sends : List ℕ) → ComesTo bench sends (λ k. put bytes.now k.sends k.refuses) result }
     ensures within { Within (bench.trace.count + length bytes.now) bench.trace.got result.trace }
 {
     let mut so_far = bench;
@@ -229,8 +229,8 @@ fn ended(ending: Ending, trace: Trace) -> Traced
 
 // The last command is carried out.
 fn finish(after: Phase, bench: Bench) -> Traced
-    ensures by_index { (sends : List ℕ) → result ≡ resumed bench sends (done after) }
-    ensures trace_value { result.trace ≡ bench.trace }
+    ensures resumes { (sends : List ℕ) → result ≡ resumed bench sends (done after) }
+    ensures same_trace { result.trace ≡ bench.trace }
 {
     let trace = bench.trace;
     if bench.cut {
@@ -245,7 +245,7 @@ fn finish(after: Phase, bench: Bench) -> Traced
 
 // The words of a list one after another, from a phase on.
 fn trace_words(words: [u32; 8], fifo: &[u8], phase: Phase, sends: &[u8], refuses: usize) -> Traced
-    ensures { Tells result (run_list 32 (record { words = words; fifo = fifo.now }) phase (record { sends = sends.entry.now; refuses = refuses }) done) }
+    ensures { Tells result (run_list 32 (record { words = words; fifo = fifo.now }) phase (record { sends = sends.now; refuses = refuses }) done) }
 {
     let mut bench = fresh(refuses);
     if fifo.len() > FIFO {

@@ -14,7 +14,7 @@ returns-then-may_write c =
     let a = c.args in (
       rw (c.after_write.ensures, c.byte_at-first.ensures)
           (write_goes 32 a.fifo.now a.s a.n (omega arith)
-          (rw c.byte_at-first.ensures at (sym c.may_write_lem.ensures ∙ c.if-may_write.true))),
+          (rw c.byte_at-first.ensures at (sym c.may_write.ensures ∙ c.if-may_write.true))),
       omega arith,
     )
 
@@ -22,4 +22,4 @@ pub returns : goal.returns
 returns c =
     let a = c.args in
     write_barred 32 a.fifo.now a.s a.n (omega arith)
-    (rw c.byte_at-first.ensures at (sym c.may_write_lem.ensures ∙ c.if-may_write.false))
+    (rw c.byte_at-first.ensures at (sym c.may_write.ensures ∙ c.if-may_write.false))

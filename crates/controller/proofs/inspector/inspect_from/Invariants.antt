@@ -8,7 +8,7 @@ use Rattle.controller.specs.Verdicts.{willing, verdict_of}
 use Rattle.controller.proofs.inspector.inspect_from.Given as goal
 
 abbrev pub invariant-loop-i : goal.invariant-loop-i
-invariant-loop-i l =     (l.i ≤ 8)
+invariant-loop-i l = (l.i ≤ 8)
     × (length l.words ≡ 8)
     × Inside 32 l.fifo l.s
     × (verdict_of (run_from 32 (drop l.i l.words) (state_at l.fifo l.s) willing done) ≡ verdict_of (run_from 32 l.words (state_at l.fifo l.initial.s) willing done))

@@ -24,15 +24,13 @@ loop-i-preserved c =
       λ a next e.
           l.invariant.3 a next e
           ∙ rw (c.store-so_far.ensures, c.note.ensures, c.sensor_byte-byte.ensures, e)
-          (get_next next a z.n l.i z.sends.now l.so_far.refuses l.so_far.trace-1 (omega arith)),
+          (get_next next a z.n l.i z.sends.now l.so_far.refuses l.so_far.trace (omega arith)),
     )
 
-pub returns : goal.returns
-returns c =
+pub returns-clause-comes_to : goal.returns-clause-comes_to
+returns-clause-comes_to c =
     let l = c.loop-i in
-    let z = c.args in (
-      λ a e next.
-          l.invariant.3 a next e
-          ∙ rw l.invariant.1 (ap (traced l.so_far.trace-1) (get_over next a z.n l.i _ _ (omega arith))),
-      search rules,
-    )
+    let z = c.args in
+    λ a e next.
+    l.invariant.3 a next e
+    ∙ rw l.invariant.1 (ap (traced l.so_far.trace) (get_over next a z.n l.i _ _ (omega arith)))

@@ -11,7 +11,7 @@ use Rattle.controller.specs.Tracing.{traced, Within}
 use Rattle.controller.proofs.model.receive_bytes.Given as goal
 
 abbrev pub invariant-loop-i : goal.invariant-loop-i
-invariant-loop-i l =     (l.i ≤ l.n)
+invariant-loop-i l = (l.i ≤ l.n)
     × (l.so_far.cut ≡ false)
     × Within (l.initial.so_far.trace.count + l.i) (l.initial.so_far.trace.got + l.i) l.so_far.trace
     × ((a : Acknowledge) (next : Sensor → Run)

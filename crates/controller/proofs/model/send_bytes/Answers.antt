@@ -2,7 +2,6 @@
 -- whole run.
 use native.Mathlib.Omega.{arith}
 use mathlib.Core.Path.{refl, ap, ◌∙◌}
-use mathlib.Core.Bool.{false}
 use Rattle.controller.specs.Tracing.{traced}
 use Rattle.controller.proofs.LawsTraces.{put_refused, put_acknowledged, put_over}
 use borrow.Author.Rules.{rules}
@@ -11,15 +10,13 @@ use Rattle.controller.proofs.model.send_bytes.Goals as goal
 pub loop-i-init : goal.loop-i-init
 loop-i-init c = (search rules, search rules, search rules, λ sends next. refl)
 
-pub returns-then-so_far-eq1 : goal.returns-then-so_far-eq1
-returns-then-so_far-eq1 c =
+pub returns-then-so_far-eq1-clause-comes_to : goal.returns-then-so_far-eq1-clause-comes_to
+returns-then-so_far-eq1-clause-comes_to c =
     let l = c.loop-i in
-    let a = c.args in (
-      λ sends next.
-          l.invariant.3 sends next
-          ∙ rw (c.note-so_far.ensures, c.if-so_far-eq1.true) (put_refused next a.bytes.now _ l.i l.so_far.trace-1 (omega arith)),
-      rw c.note-so_far.ensures (search rules),
-    )
+    let a = c.args in
+    λ sends next.
+    l.invariant.3 sends next
+    ∙ rw (c.note-so_far.ensures, c.if-so_far-eq1.true) (put_refused next a.bytes.now _ l.i l.so_far.trace (omega arith))
 
 pub loop-i-preserved : goal.loop-i-preserved
 loop-i-preserved c =
@@ -31,15 +28,13 @@ loop-i-preserved c =
       λ sends next.
           l.invariant.3 sends next
           ∙ rw (c.note-so_far-in-loop-i.ensures, c.count_down.ensures)
-          (put_acknowledged next a.bytes.now _ l.i l.so_far.trace-1 (omega arith) l.so_far.refuses c.if-so_far-eq1.false),
+          (put_acknowledged next a.bytes.now _ l.i l.so_far.trace (omega arith) l.so_far.refuses c.if-so_far-eq1.false),
     )
 
-pub returns : goal.returns
-returns c =
+pub returns-clause-comes_to : goal.returns-clause-comes_to
+returns-clause-comes_to c =
     let l = c.loop-i in
-    let a = c.args in (
-      λ sends next.
-          l.invariant.3 sends next
-          ∙ rw l.invariant.1 (ap (traced l.so_far.trace-1) (put_over next a.bytes.now _ l.i _ (omega arith))),
-      search rules,
-    )
+    let a = c.args in
+    λ sends next.
+    l.invariant.3 sends next
+    ∙ rw l.invariant.1 (ap (traced l.so_far.trace) (put_over next a.bytes.now _ l.i _ (omega arith)))

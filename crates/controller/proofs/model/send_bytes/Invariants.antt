@@ -10,7 +10,7 @@ use Rattle.controller.specs.Tracing.{traced, Within}
 use Rattle.controller.proofs.model.send_bytes.Given as goal
 
 abbrev pub invariant-loop-i : goal.invariant-loop-i
-invariant-loop-i l =     (l.i ≤ length l.bytes)
+invariant-loop-i l = (l.i ≤ length l.bytes)
     × (l.so_far.cut ≡ false)
     × Within (l.initial.so_far.trace.count + l.i) l.initial.so_far.trace.got l.so_far.trace
     × ((sends : List ℕ) (next : Sensor → Run)

@@ -2,12 +2,12 @@
 -- run; and each word and each byte has caused at most one event.
 use native.Mathlib.Omega.{arith}
 use mathlib.Core.Path.{refl, sym, ap, ◌∙◌}
-use mathlib.Core.Bool.{false}
 use Rattle.controller.specs.Model.{events_of}
 use Rattle.controller.specs.Tracing.{blank_trace, heard_all, traced}
 use Rattle.controller.proofs.LawsTraces.{list_exceeds, list_runs, run_malformed, run_halts, run_finishes, run_cut, run_goes, run_over}
 use Rattle.controller.proofs.LawsSpent.{finishes_fits, goes_fits, goes_within}
 use borrow.Author.Rules.{rules}
+use Rattle.controller.proofs.model.trace_words.Goals.{In-Finishes, In-GoesOn}
 use Rattle.controller.proofs.model.trace_words.Goals as goal
 
 pub returns-then-fifo-gt-FIFO : goal.returns-then-fifo-gt-FIFO
@@ -34,13 +34,12 @@ loop-i-init c =
 pub returns-in-Malformed : goal.returns-in-Malformed
 unfolding traced heard_all events_of
 returns-in-Malformed c =
-    let d = c in
-    let l = d.loop-i in
+    let l = c.loop-i in
     record {
       all =
           c.ended-in-Malformed.ensures
           ∙ ap (traced l.bench.trace)
-          (sym (run_malformed 32 _ l.i _ (omega arith) _ (sym d.decode-meaning.ensures ∙ c.enum_told-1.given.1)))
+          (sym (run_malformed 32 _ l.i _ (omega arith) _ (sym c.decode-meaning.ensures ∙ c.in-Malformed.is)))
           ∙ l.invariant.5;
       room = rw c.ended-in-Malformed.ensures (search rules);
     }
@@ -48,94 +47,77 @@ returns-in-Malformed c =
 pub returns-in-Halts : goal.returns-in-Halts
 unfolding traced heard_all events_of
 returns-in-Halts c =
-    let k = c in
-    let m = k in
-    let d = m in
-    let l = d.loop-i in
+    let l = c.loop-i in
     record {
       all =
           c.ended-in-Halts.ensures
           ∙ ap (traced l.bench.trace)
           (sym
-          (run_halts 32 _ l.i _ (omega arith) _ (sym d.decode-meaning.ensures ∙ m.meaning-1.given.1) _
-          (rw c.enum_told-in-Halts-1.given.1 at k.take_turn-taken.ensures)))
+          (run_halts 32 _ l.i _ (omega arith) _ (sym c.decode-meaning.ensures ∙ c.in-Planned.is) _
+          (rw c.in-Halts.is at c.take_turn-taken.ensures)))
           ∙ l.invariant.5;
       room = rw c.ended-in-Halts.ensures (search rules);
     }
 
 pub carry_out-requires : goal.carry_out-requires
 carry_out-requires c =
-    let k = c in
-    let l = k.loop-i in
+    let l = c.loop-i in
     finishes_fits _ (omega arith) l.s l.invariant.2 l.i (omega arith) l.bench l.invariant.3 l.invariant.4 _ _
-    (rw c.taken-1.given.1 at k.take_turn-taken.ensures)
+    (rw c.in-Finishes.is at c.take_turn-taken.ensures)
 
 pub returns-in-Finishes : goal.returns-in-Finishes
 returns-in-Finishes c =
-    let o = c in
-    let k = o in
-    let m = k in
-    let d = m in
-    let l = d.loop-i in
-    let sends = d.args.sends.now in
-    let ends = rw o.taken-1.given.1 at k.take_turn-taken.ensures in
-    let fits = carry-out-requires o o.carry_out.lifetimes in
+    let l = c.loop-i in
+    let sends = c.args.sends.now in
+    let ends = rw c.in-Finishes.is at c.take_turn-taken.ensures in
+    let fits = carry_out-requires (goal.at.returns-in-Finishes c).In-Finishes in
     record {
       all =
-          c.finish.ensures.0 sends
+          c.finish.ensures.resumes sends
           ∙ sym
-          (run_finishes 32 _ l.i _ (omega arith) _ (sym d.decode-meaning.ensures ∙ m.meaning-1.given.1) l.bench o.carry_out.result
-          sends o.carry_out.ensures.0 _ ends)
+          (run_finishes 32 _ l.i _ (omega arith) _ (sym c.decode-meaning.ensures ∙ c.in-Planned.is) l.bench c.carry_out.result
+          sends c.carry_out.ensures.comes_to _ ends)
           ∙ l.invariant.5;
-      room = rw c.finish.ensures.1 (search rules);
+      room = rw c.finish.ensures.same_trace (search rules);
     }
 
 pub carry_out-bench-requires : goal.carry_out-bench-requires
 carry_out-bench-requires c =
-    let k = c in
-    let l = k.loop-i in
-    let moved = rw c.taken-in-GoesOn-1.given.1 at k.take_turn-taken.ensures in
+    let l = c.loop-i in
+    let moved = rw c.in-GoesOn.is at c.take_turn-taken.ensures in
     goes_fits _ (omega arith) l.s l.invariant.2 l.i (omega arith) l.bench l.invariant.3 l.invariant.4 _ _ moved.0 moved.1
 
 pub returns-then-bench : goal.returns-then-bench
 unfolding traced heard_all events_of
 returns-then-bench c =
-    let o = c in
-    let k = o in
-    let m = k in
-    let d = m in
-    let l = d.loop-i in
-    let sends = d.args.sends.now in
-    let moved = rw o.taken-in-GoesOn-1.given.1 at k.take_turn-taken.ensures in
-    let fits = carry-out-requires-2 o o.carry_out-bench.lifetimes in
+    let l = c.loop-i in
+    let sends = c.args.sends.now in
+    let moved = rw c.in-GoesOn.is at c.take_turn-taken.ensures in
+    let fits = carry_out-bench-requires (goal.at.returns-then-bench c).In-GoesOn in
     record {
       all =
           c.ended-then-bench.ensures
           ∙ sym
-          (run_cut 32 _ l.i _ (omega arith) _ (sym d.decode-meaning.ensures ∙ m.meaning-1.given.1) l.bench o.carry_out-bench.result
-          sends o.carry_out-bench.ensures.0 _ moved.0 c.if-bench.true)
+          (run_cut 32 _ l.i _ (omega arith) _ (sym c.decode-meaning.ensures ∙ c.in-Planned.is) l.bench c.carry_out-bench.result
+          sends c.carry_out-bench.ensures.comes_to _ moved.0 c.if-bench.true)
           ∙ l.invariant.5;
       room = rw c.ended-then-bench.ensures (search rules);
     }
 
 pub loop-i-preserved : goal.loop-i-preserved
 loop-i-preserved c =
-    let o = c in
-    let k = o in
-    let m = k in
-    let d = m in
-    let l = d.loop-i in
-    let sends = d.args.sends.now in
-    let moved = rw o.taken-in-GoesOn-1.given.1 at k.take_turn-taken.ensures in (
+    let l = c.loop-i in
+    let sends = c.args.sends.now in
+    let moved = rw c.in-GoesOn.is at c.take_turn-taken.ensures in (
       search rules,
       l.invariant.1,
       moved.1,
       c.if-bench.false,
       goes_within _ (omega arith) l.s l.invariant.2 l.i (omega arith) l.bench l.invariant.3 l.invariant.4 _ _ moved.0 moved.1
-          o.carry_out-bench.result.trace o.carry_out-bench.ensures.1,
+          c.carry_out-bench.result.trace c.carry_out-bench.ensures.within,
       sym
-          (run_goes 32 _ l.i _ (omega arith) _ (sym d.decode-meaning.ensures ∙ m.meaning-1.given.1) l.bench o.carry_out-bench.result
-          sends o.carry_out-bench.ensures.0 _ moved.0 c.if-bench.false)
+          (run_goes 32 _ l.i _ (omega arith) _ (sym c.decode-meaning.ensures ∙ c.in-Planned.is) l.bench c.carry_out-bench.result
+          sends c.carry_out-bench.ensures.comes_to _ moved.0 c.if-bench.false)
           ∙ l.invariant.5,
     )
 

@@ -10,13 +10,13 @@ use Rattle.controller.specs.Tracing.{blank_trace, traced, sensor_at, Within}
 use Rattle.controller.proofs.model.trace_words.Given as goal
 
 abbrev pub invariant-loop-i : goal.invariant-loop-i
-invariant-loop-i l =     (l.i ≤ 8)
+invariant-loop-i l = (l.i ≤ 8)
     × (length l.words ≡ 8)
     × Inside 32 l.fifo l.s
     × (l.bench.cut ≡ false)
     × Within (l.i + l.s.at + l.s.received) l.s.received l.bench.trace
     × (traced l.bench.trace (run_from 32 (drop l.i l.words) (state_at l.fifo l.s) (sensor_at l.sends l.bench) done)
-    ≡ traced blank_trace (run_list 32 (record { l.words = l.words; l.fifo = l.fifo }) l.initial.s.phase (record { l.sends = l.sends; l.refuses = l.refuses }) done))
+    ≡ traced blank_trace (run_list 32 (record { words = l.words; fifo = l.fifo }) l.initial.s.phase (record { sends = l.sends; refuses = l.refuses }) done))
 
 abbrev pub decreases-loop-i : goal.decreases-loop-i
 decreases-loop-i l = 8 - l.i
