@@ -1,4 +1,5 @@
 -- `sitankulo::names::sitankulo_refusal_name` meets its contract.
+use native.Mathlib.Omega.{arith}
 use borrow.Author.Tests.{ne_eqb}
 use Rattle.sitankulo.specs.Names.{name_of}
 use Rattle.sitankulo.proofs.LawsNames.{untold}
@@ -65,4 +66,4 @@ unfolding name_of
 returns-in_default c =
     let name = name_of c.args.number in
     untold name c.args.text.now
-    (simp (ne_eqb _ 1 (λ e. omega arith), ne_eqb _ 2 (λ e. omega arith), ne_eqb _ 3 (λ e. omega arith), ne_eqb _ 4 (λ e. omega arith), ne_eqb _ 5 (λ e. omega arith), ne_eqb _ 6 (λ e. omega arith), ne_eqb _ 7 (λ e. omega arith), ne_eqb _ 8 (λ e. omega arith), ne_eqb _ 9 (λ e. omega arith), ne_eqb _ 10 (λ e. omega arith), ne_eqb _ 11 (λ e. omega arith), ne_eqb _ 12 (λ e. omega arith), ne_eqb _ 13 (λ e. omega arith), ne_eqb _ 14 (λ e. omega arith)))
+    (simp (ne_eqb c.args.number 1 (λ e. omega arith), ne_eqb c.args.number 2 (λ e. omega arith), ne_eqb c.args.number 3 (λ e. omega arith), ne_eqb c.args.number 4 (λ e. omega arith), ne_eqb c.args.number 5 (λ e. omega arith), ne_eqb c.args.number 6 (λ e. omega arith), ne_eqb c.args.number 7 (λ e. omega arith), ne_eqb c.args.number 8 (λ e. omega arith), ne_eqb c.args.number 9 (λ e. omega arith), ne_eqb c.args.number 10 (λ e. omega arith), ne_eqb c.args.number 11 (λ e. omega arith), ne_eqb c.args.number 12 (λ e. omega arith), ne_eqb c.args.number 13 (λ e. omega arith), ne_eqb c.args.number 14 (λ e. omega arith)))

@@ -3,6 +3,7 @@ use native.Mathlib.Omega.{arith}
 use mathlib.Core.Path.{◌≡◌, sym, ◌∙◌}
 use mathlib.Core.Bool.{true}
 use lib.ListN.{length}
+use borrow.Author.Tests.{not-true, not-false}
 use Rattle.sitankulo.specs.Records.{is_record}
 use Rattle.sitankulo.specs.Transactions.{abandoned_for}
 use Rattle.sitankulo.proofs.LawsRecords.{record_long}
@@ -15,7 +16,7 @@ fit : (c : After-abandon-abandoned) → length c.args.commands.now ≡ 32
 fit c = c.if-commands-ne-WORDS.false
 
 ours : (c : After-abandon-abandoned) → is_record c.args.state.now ≡ true
-ours c = sym c.read-held.ensures.0 ∙ c.if-not-held.false
+ours c = sym c.read-held.ensures.0 ∙ not-false _ c.if-not-held.false
 
 made :
     (c : After-abandon-abandoned)
@@ -24,14 +25,14 @@ made c =
     let read = c.read-held in
     let args = c.args in
     c.abandon-abandoned.ensures
-    ∙ abandoned_for_lem args.state.now read.result.progress (read.ensures.1 c.if-not-held.false)
+    ∙ abandoned_for_lem args.state.now read.result.progress (read.ensures.1 (not-false _ c.if-not-held.false))
     args.bits args.commands.now args.time _ c.snapshot_of.ensures
 
 pub returns-then-commands-ne-WORDS : goal.returns-then-commands-ne-WORDS
 returns-then-commands-ne-WORDS c = abandon_misfit _ _ _ c.if-commands-ne-WORDS.true
 
 pub returns-then-not-held : goal.returns-then-not-held
-returns-then-not-held c = abandon_foreign _ _ _ c.if-commands-ne-WORDS.false (sym c.read-held.ensures.0 ∙ c.if-not-held.true)
+returns-then-not-held c = abandon_foreign _ _ _ c.if-commands-ne-WORDS.false (sym c.read-held.ensures.0 ∙ not-true _ c.if-not-held.true)
 
 pub snapshot_of-requires : goal.snapshot_of-requires
 snapshot_of-requires c = omega (arith, c.if-commands-ne-WORDS.false)

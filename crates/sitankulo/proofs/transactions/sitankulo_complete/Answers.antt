@@ -3,6 +3,7 @@ use native.Mathlib.Omega.{arith}
 use mathlib.Core.Path.{◌≡◌, sym, ◌∙◌}
 use mathlib.Core.Bool.{true}
 use lib.ListN.{length}
+use borrow.Author.Tests.{not-true, not-false}
 use Rattle.sitankulo.specs.Records.{record_in, is_record}
 use Rattle.sitankulo.specs.Transactions.{completed_for, landed_for}
 use Rattle.sitankulo.proofs.LawsRecords.{record_long}
@@ -15,10 +16,10 @@ fit : (c : After-complete-completed) → length c.args.commands.now ≡ 32
 fit c = c.if-commands-ne-WORDS.false
 
 ours : (c : After-complete-completed) → is_record c.args.state.now ≡ true
-ours c = sym c.read-held.ensures.0 ∙ c.if-not-held.false
+ours c = sym c.read-held.ensures.0 ∙ not-false _ c.if-not-held.false
 
 said : (c : After-complete-completed) → c.read-held.result.progress ≡ record_in c.args.state.now
-said c = c.read-held.ensures.1 c.if-not-held.false
+said c = c.read-held.ensures.1 (not-false _ c.if-not-held.false)
 
 made :
     (c : After-complete-completed)
@@ -49,7 +50,7 @@ returns-then-commands-ne-WORDS c =
 
 pub returns-then-not-held : goal.returns-then-not-held
 returns-then-not-held c =
-    complete_foreign _ _ _ _ _ _ c.if-commands-ne-WORDS.false (sym c.read-held.ensures.0 ∙ c.if-not-held.true) c.foreign_number.result
+    complete_foreign _ _ _ _ _ _ c.if-commands-ne-WORDS.false (sym c.read-held.ensures.0 ∙ not-true _ c.if-not-held.true) c.foreign_number.result
     c.foreign_number.ensures
 
 pub snapshot_of-requires : goal.snapshot_of-requires

@@ -3,6 +3,7 @@ use Prim.Native.Nat.{◌≤◌}
 use native.Mathlib.Omega.{arith}
 use mathlib.Core.Path.{◌≡◌, sym, ◌∙◌}
 use mathlib.Core.Bool.{true}
+use borrow.Author.Tests.{not-true, not-false}
 use Rattle.sitankulo.specs.Records.{is_record}
 use Rattle.sitankulo.specs.Transactions.{handed_for}
 use Rattle.sitankulo.proofs.LawsHanded.{Few, few_handed}
@@ -16,7 +17,7 @@ known : (c : After-next_number-number) → c.args.deadline ≤ 2
 known c = c.if-deadline-gt-LAST_KIND.false
 
 ours : (c : After-next_number-number) → is_record c.args.state.now ≡ true
-ours c = sym c.read-held.ensures.0 ∙ c.if-not-held.false
+ours c = sym c.read-held.ensures.0 ∙ not-false _ c.if-not-held.false
 
 made :
     (c : After-next_number-number)
@@ -27,7 +28,7 @@ made c =
     let read = c.read-held in
     let args = c.args in
     c.next_list-handed.ensures
-    ∙ handed_for_lem args.state.now read.result.progress (read.ensures.1 c.if-not-held.false)
+    ∙ handed_for_lem args.state.now read.result.progress (read.ensures.1 (not-false _ c.if-not-held.false))
     args.deadline args.duration args.address args.script.now args.time _ c.settings_of.ensures
 
 few : (c : After-next_number-number) → Few c.next_list-handed.result.list
@@ -41,7 +42,7 @@ returns-then-deadline-gt-LAST_KIND c = next_unknown _ _ _ _ _ _ c.if-deadline-gt
 
 pub returns-then-not-held : goal.returns-then-not-held
 returns-then-not-held c =
-    next_foreign _ _ _ _ _ _ c.if-deadline-gt-LAST_KIND.false (sym c.read-held.ensures.0 ∙ c.if-not-held.true) c.foreign_number.result
+    next_foreign _ _ _ _ _ _ c.if-deadline-gt-LAST_KIND.false (sym c.read-held.ensures.0 ∙ not-true _ c.if-not-held.true) c.foreign_number.result
     c.foreign_number.ensures
 
 pub returns-then-number-ne0 : goal.returns-then-number-ne0
