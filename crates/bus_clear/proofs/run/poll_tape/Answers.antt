@@ -2,11 +2,8 @@
 -- whole run.
 use mathlib.Core.Path.{sym, ◌∙◌}
 use native.Mathlib.Omega.{arith}
-use Rattle.bus_clear.proofs.LawsRuns.{from_start, few_changes, polls_spent, clocks_over, levels_over, out_of_range, is_ready, gives_up, goes_on}
+use Rattle.bus_clear.proofs.LawsRuns.{few_changes, polls_spent, clocks_over, levels_over, out_of_range, is_ready, gives_up, goes_on}
 use Rattle.bus_clear.proofs.run.poll_tape.Goals as goal
-
-pub loop-polls-init : goal.loop-polls-init
-loop-polls-init c = (omega arith, omega arith, omega arith, from_start c.args.t c.args.clocks.now c.args.levels.now c.args.c)
 
 pub returns-then-polls-budget : goal.returns-then-polls-budget
 returns-then-polls-budget c =

@@ -8,7 +8,7 @@ use Rattle.bus_clear.specs.declared.Pins.{Pins}
 use Rattle.bus_clear.specs.declared.run.Polls.{Polls}
 use Rattle.bus_clear.specs.Pins.{changes_of}
 use Rattle.bus_clear.specs.Runs.{tape_of, polled_over, made_in, releases}
-use Rattle.bus_clear.proofs.LawsPolled.{tape_within, polls_within, polled_made, too_little_room, reported, released_last}
+use Rattle.bus_clear.proofs.LawsPolled.{tape_within, polls_within, polled_made, reported, released_last}
 use Rattle.bus_clear.proofs.run.run.Goals.{After-poll_tape-p, After-with_pins-release}
 use Rattle.bus_clear.proofs.run.run.Goals as goal
 
@@ -45,22 +45,6 @@ release :
     (c : After-with_pins-release)
     → length (changes_of c.with_pins-release.result) ≡ length (releases c.args.t.pins)
 release c = ap (λ (x : Pins). length (changes_of x)) c.with_pins-release.ensures
-
-pub returns-then-memory-changes : goal.returns-then-memory-changes
-returns-then-memory-changes c =
-    let a = c.args in
-    let p = (goal.at.returns-then-memory-changes c).After-poll_tape-p in
-    let room = too_little_room a.t a.clocks.now a.levels.now a.memory.now a.c (omega (arith, counted p)) in
-    record { value = c.no_room.ensures ∙ room.0; memory_after = room.1 }
-
-pub returns-then-memory-changes-2 : goal.returns-then-memory-changes-2
-returns-then-memory-changes-2 c =
-    let a = c.args in
-    let p = (goal.at.returns-then-memory-changes-2 c).After-poll_tape-p in
-    let w = (goal.at.returns-then-memory-changes-2 c).After-with_pins-release in
-    let room = too_little_room a.t a.clocks.now a.levels.now a.memory.now a.c
-    (omega (arith, counted p, c.change_count.ensures, release w)) in
-    record { value = c.no_room-then-memory-changes-2.ensures ∙ room.0; memory_after = room.1 }
 
 pub lay_all-at-requires : goal.lay_all-at-requires
 lay_all-at-requires c =
