@@ -1,14 +1,14 @@
 -- The nine clocks: a clear whose clocks are far enough apart is Idle two polls after each rise at which SDA may first read high, and
 -- twenty polls at the latest; a poll that comes too early acts on nothing.
 -- Assumes nothing.
-use Prim.Native.Nat.{ℕ, zero, suc, ◌+◌, ◌-◌, ◌*◌, ◌≤◌, ◌<◌}
+use Prim.Native.Nat.{ℕ, zero, suc, ◌+◌, ◌-◌, ◌*◌, ◌≤◌}
 use native.Mathlib.Omega.{arith}
-use mathlib.Core.Path.{◌≡◌, refl, sym, ap, ◌∙◌}
+use mathlib.Core.Path.{◌≡◌, refl, ap, ◌∙◌}
 use mathlib.Core.Bool.{Bool, true, false, cond, false≢true}
 use mathlib.Core.List.{List, [], ◌∷◌}
 use lib.ListN.{length, take}
-use lib.Dec.{leb, ltb, eqb, eqb-suc-zero}
-use borrow.Author.Tests.{le-leb, lt-ltb, le-ltb}
+use lib.Dec.{eqb-suc-zero}
+use borrow.Author.Tests.{le-leb, le-ltb}
 use Rattle.bus_clear.specs.declared.State.{State}
 use Rattle.bus_clear.specs.declared.State.TheVariants.{Idle, SendStop, SendClock}
 use Rattle.bus_clear.specs.declared.Pins.TheVariants.{Still}

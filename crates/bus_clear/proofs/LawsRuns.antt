@@ -2,11 +2,10 @@
 -- Assumes nothing.
 use Prim.Native.Nat.{ℕ, suc, ◌+◌, ◌-◌, ◌≤◌, ◌<◌}
 use native.Mathlib.Omega.{arith}
-use native.Mathlib.Nat.{add-zero}
 use native.Mathlib.Numerals.{add-one}
-use mathlib.Core.Path.{◌≡◌, refl, sym, ap, ◌∙◌}
-use mathlib.Core.Bool.{Bool, true, false, not}
-use mathlib.Core.List.{List, [], ◌∷◌, ◌++◌, append-nil}
+use mathlib.Core.Path.{◌≡◌, refl}
+use mathlib.Core.Bool.{true, false, not}
+use mathlib.Core.List.{List, [], append-nil}
 use lib.ListN.{length, get_or, drop, length-append, drop_of_length-le}
 use lib.Seq.{drop-cons}
 use lib.Dec.{eqb}
@@ -20,9 +19,9 @@ use Rattle.bus_clear.specs.declared.run.Terms.{Terms}
 use Rattle.bus_clear.specs.declared.run.Polls.{Polls}
 use Rattle.bus_clear.specs.declared.run.Ending.{Ending}
 use Rattle.bus_clear.specs.declared.run.Ending.TheVariants.{Ready, GivenUp, Spent, TapeOver, ClockRange}
-use Rattle.bus_clear.specs.Pins.{Change, changes_of}
+use Rattle.bus_clear.specs.Pins.{changes_of}
 use Rattle.bus_clear.specs.Clear.{step_of}
-use Rattle.bus_clear.specs.Runs.{tape_of, Polled, ends, after, exceeded, answered, poll_all, counted_of}
+use Rattle.bus_clear.specs.Runs.{tape_of, Polled, exceeded, answered, poll_all, counted_of}
 
 -- k polls and m changes before
 abbrev pub plus : ℕ → ℕ → Polls → Polls

@@ -3,7 +3,7 @@
 -- Assumes nothing.
 use Prim.Native.Nat.{ℕ, zero, suc, ◌+◌, ◌-◌}
 use native.Mathlib.Omega.{arith}
-use mathlib.Core.Path.{◌≡◌, refl, sym, ap, ◌∙◌}
+use mathlib.Core.Path.{◌≡◌, refl, ap, ◌∙◌}
 use mathlib.Core.Bool.{Bool, true, false, cond}
 use mathlib.Core.List.{List, [], ◌∷◌, ◌++◌}
 use lib.Dec.{leb, ltb, eqb}
@@ -19,7 +19,7 @@ use Rattle.bus_clear.specs.declared.Stepped.{Stepped}
 use Rattle.bus_clear.specs.declared.run.Terms.{Terms}
 use Rattle.bus_clear.specs.Pins.{Change, scl, sda, changes_of}
 use Rattle.bus_clear.specs.Clear.{last_time, hold, fresh_of, stays, acts, waits_first, step_of}
-use Rattle.bus_clear.specs.Runs.{Sample, Polled, ends, after, exceeded, answered, poll_all, made_by, all_changes}
+use Rattle.bus_clear.specs.Runs.{Sample, Polled, exceeded, answered, poll_all, made_by, all_changes}
 use Rattle.bus_clear.specs.Wires.{Wires, set, seen, wires_after, seen_of, stops, wires_in}
 
 wires_append : (w : Wires) (front back : List Change) → wires_after w (front ++ back) ≡ wires_after (wires_after w front) back

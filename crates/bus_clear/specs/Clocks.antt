@@ -1,5 +1,5 @@
 -- The nine clocks, one acting poll after another: which state follows which, by what SDA reads.
-use Rattle.std.specs.Prelude.{ℕ, zero, suc, ◌+◌, ◌≤◌, ◌≡◌, Bool, true, false, cond, List, [], ◌∷◌, ltb}
+use Rattle.std.specs.Prelude.{ℕ, suc, ◌+◌, ◌≤◌, ◌≡◌, Bool, true, false, cond, List, [], ◌∷◌, ltb}
 use Rattle.bus_clear.specs.declared.State.{State}
 use Rattle.bus_clear.specs.declared.State.TheVariants.{Idle, SendStop, SendClock}
 use Rattle.bus_clear.specs.declared.BusClear.{BusClear}

@@ -1,5 +1,5 @@
 -- A run of the bus clear over a tape of samples, after 01, "Bus clear".
-use Rattle.std.specs.Prelude.{ℕ, zero, suc, ◌+◌, ◌-◌, ◌≡◌, Bool, true, false, cond, not, ◌&&◌, List, [], ◌∷◌, ◌++◌, map, length, leb, ltb, eqb}
+use Rattle.std.specs.Prelude.{ℕ, zero, suc, ◌-◌, ◌≡◌, Bool, false, cond, not, ◌&&◌, List, [], ◌∷◌, ◌++◌, map, length, leb, ltb, eqb}
 use Rattle.std.proofs.lemmas.List.Edits.{sets}
 use Rattle.bus_clear.specs.declared.Pins.TheVariants.{SclHighSdaHigh}
 use Rattle.bus_clear.specs.declared.BusClear.{BusClear}

@@ -1,5 +1,5 @@
 -- What pin changes are on the bus, after UM10204, 3.1.4: SDA falls while SCL is high, a START; SDA rises while SCL is high, a STOP.
-use Rattle.std.specs.Prelude.{ℕ, zero, suc, Bool, true, false, cond, List, [], ◌∷◌, ◌++◌}
+use Rattle.std.specs.Prelude.{ℕ, suc, Bool, true, false, cond, List, [], ◌∷◌, ◌++◌}
 use Rattle.bus.specs.Events.{Event, start_bit, stop_bit, sent, got}
 use Rattle.bus_clear.specs.declared.State.{State}
 use Rattle.bus_clear.specs.declared.State.TheVariants.{Idle, SendStop, SendClock}

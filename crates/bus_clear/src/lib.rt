@@ -154,6 +154,7 @@ fn stay(c: BusClear, answer: Answer) -> Stepped
 }
 
 // One poll, by value.
+#[tactic(auto, unfolding(crate::specs::Clear::step_of))]
 pub fn step(c: BusClear, pins: bool, time: u64, sda: bool) -> Stepped
     ensures { result ≡ step_of c pins time sda }
 {

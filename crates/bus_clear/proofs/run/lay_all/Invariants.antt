@@ -11,7 +11,7 @@ use Rattle.bus_clear.proofs.LawsLaying.{still_made}
 use Rattle.bus_clear.proofs.run.lay_all.Given as goal
 
 abbrev pub invariant-loop-k : goal.invariant-loop-k
-invariant-loop-k l =     (l.k ≤ l.polls)
+invariant-loop-k l = (l.k ≤ l.polls)
     × (length l.memory ≡ length l.initial.memory)
     × (l.at + length (still_made l.pins l.clocks l.levels l.polls l.held l.k) ≡ length (made_in l.pins l.polls (tape_of l.clocks l.levels) l.initial.held))
     × (sets l.memory l.at (map change_byte (still_made l.pins l.clocks l.levels l.polls l.held l.k))

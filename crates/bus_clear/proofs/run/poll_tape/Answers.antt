@@ -2,28 +2,8 @@
 -- whole run.
 use mathlib.Core.Path.{sym, ◌∙◌}
 use native.Mathlib.Omega.{arith}
-use Rattle.bus_clear.proofs.LawsRuns.{from_start, few_changes, polls_spent, clocks_over, levels_over, out_of_range, is_ready, gives_up, goes_on}
+use Rattle.bus_clear.proofs.LawsRuns.{few_changes, polls_spent, clocks_over, levels_over, out_of_range, is_ready, gives_up, goes_on}
 use Rattle.bus_clear.proofs.run.poll_tape.Goals as goal
-
-pub loop-polls-init : goal.loop-polls-init
-loop-polls-init c = (omega arith, omega arith, omega arith, from_start c.args.t c.args.clocks.now c.args.levels.now c.args.c)
-
-pub overflow_add-changes : goal.overflow_add-changes
-overflow_add-changes c = omega (arith, few_changes c.answer-1.given.0.0, c.change_count-changes.ensures, c.well-formed)
-
-pub loop-polls-preserved : goal.loop-polls-preserved
-loop-polls-preserved c =
-    let s = c in
-    let a = s.args in
-    let l = s.loop-polls in (
-      omega arith,
-      omega arith,
-      omega (arith, few_changes c.answer-1.given.0.0, c.change_count-changes.ensures),
-      rw c.change_count-changes.ensures
-          (sym (goes_on a.t a.clocks.now a.levels.now l.held l.polls l.changes (omega arith) (omega arith) (omega arith)
-          s.step-s.result s.step-s.ensures _ c.answer-1.given.1
-          (sym c.is_exceeded.ensures ∙ c.if-is_exceeded.false)) ∙ l.invariant.3),
-    )
 
 pub returns-then-polls-budget : goal.returns-then-polls-budget
 returns-then-polls-budget c =
@@ -43,28 +23,38 @@ returns-then-levels-polls c =
     let l = c.loop-polls in
     sym (levels_over a.t a.clocks.now a.levels.now l.held l.polls l.changes (omega arith) (omega arith) c.if-levels-polls.true) ∙ l.invariant.3
 
+pub loop-polls-preserved : goal.loop-polls-preserved
+loop-polls-preserved c =
+    let a = c.args in
+    let l = c.loop-polls in (
+      omega arith,
+      omega arith,
+      omega (arith, few_changes c.in-Pending.changed, c.change_count-changes.ensures),
+      rw c.change_count-changes.ensures
+          (sym (goes_on a.t a.clocks.now a.levels.now l.held l.polls l.changes (omega arith) (omega arith) (omega arith)
+          c.step-s.result c.step-s.ensures _ c.in-Pending.is
+          (sym c.is_exceeded.ensures ∙ c.if-is_exceeded.false)) ∙ l.invariant.3),
+    )
+
 pub returns-in-ClockRange : goal.returns-in-ClockRange
 returns-in-ClockRange c =
-    let s = c in
-    let a = s.args in
-    let l = s.loop-polls in
+    let a = c.args in
+    let l = c.loop-polls in
     sym (out_of_range a.t a.clocks.now a.levels.now l.held l.polls l.changes (omega arith) (omega arith) (omega arith)
-    s.step-s.result s.step-s.ensures c.enum_told-1.given.1) ∙ l.invariant.3
+    c.step-s.result c.step-s.ensures c.in-ClockRange.is) ∙ l.invariant.3
 
 pub returns-in-Ready : goal.returns-in-Ready
 returns-in-Ready c =
-    let s = c in
-    let a = s.args in
-    let l = s.loop-polls in
+    let a = c.args in
+    let l = c.loop-polls in
     sym (is_ready a.t a.clocks.now a.levels.now l.held l.polls l.changes (omega arith) (omega arith) (omega arith)
-    s.step-s.result s.step-s.ensures c.enum_told-in-Ready-1.given.1) ∙ l.invariant.3
+    c.step-s.result c.step-s.ensures c.in-Ready.is) ∙ l.invariant.3
 
 pub returns-then-is_exceeded : goal.returns-then-is_exceeded
 returns-then-is_exceeded c =
-    let s = c in
-    let a = s.args in
-    let l = s.loop-polls in
+    let a = c.args in
+    let l = c.loop-polls in
     rw c.change_count-changes.ensures
     (sym (gives_up a.t a.clocks.now a.levels.now l.held l.polls l.changes (omega arith) (omega arith) (omega arith)
-    s.step-s.result s.step-s.ensures _ c.answer-1.given.1
+    c.step-s.result c.step-s.ensures _ c.in-Pending.is
     (sym c.is_exceeded.ensures ∙ c.if-is_exceeded.true)) ∙ l.invariant.3)

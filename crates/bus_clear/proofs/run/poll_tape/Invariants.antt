@@ -8,7 +8,7 @@ use Rattle.bus_clear.proofs.LawsRuns.{plus, left}
 use Rattle.bus_clear.proofs.run.poll_tape.Given as goal
 
 abbrev pub invariant-loop-polls : goal.invariant-loop-polls
-invariant-loop-polls l =     (l.polls ≤ l.t.budget)
+invariant-loop-polls l = (l.polls ≤ l.t.budget)
     × (l.polls ≤ length l.clocks)
     × (l.changes ≤ 2 * l.polls)
     × (plus l.polls l.changes (counted_of (left l.t l.clocks l.levels l.held l.polls)) ≡ counted_of (poll_all l.t l.t.budget (tape_of l.clocks l.levels) l.initial.held))
