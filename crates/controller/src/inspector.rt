@@ -52,6 +52,7 @@ fn inspect_from(words: [u32; 8], fifo: &[u8], phase: Phase) -> Verdict
 }
 
 // Whether the controller, in the phase of this number, gets stuck on a list; and the phase that the list leaves.
+#[tactic(auto, unfolding(crate::specs::Verdicts::inspected, crate::specs::Model::in_phase))]
 pub fn inspect(words: [u32; 8], fifo: &[u8], phase: u32) -> Verdict
     ensures { result ≡ inspected 32 (record { words = words; fifo = fifo.now }) phase }
 {

@@ -140,6 +140,7 @@ fn byte_at(bytes: &[u8], at: usize) -> u8
     0
 }
 
+#[tactic(auto, unfolding(crate::specs::Rules::effect_of))]
 fn start(fifo: &[u8], s: Place) -> Move
     requires { Inside 32 fifo.now s }
     ensures { Moved 32 fifo.now result (effect_of 32 Start (state_at fifo.now s)) }
@@ -155,6 +156,7 @@ fn start(fifo: &[u8], s: Place) -> Move
     Move::Halts
 }
 
+#[tactic(auto, unfolding(crate::specs::Rules::effect_of))]
 fn write(n: u8, fifo: &[u8], s: Place) -> Move
     requires { Inside 32 fifo.now s }
     ensures { Moved 32 fifo.now result (effect_of 32 (Write n) (state_at fifo.now s)) }
@@ -208,6 +210,7 @@ fn close(allowed: bool, after: Phase, fifo: &[u8], s: Place) -> Move
 }
 
 // What a command comes to at a place of a list.
+#[tactic(auto, unfolding(crate::specs::Rules::effect_of))]
 fn take_turn(command: Command, fifo: &[u8], s: Place) -> Move
     requires { Inside 32 fifo.now s }
     ensures { Moved 32 fifo.now result (effect_of 32 command (state_at fifo.now s)) }

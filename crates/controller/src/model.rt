@@ -170,6 +170,7 @@ fn send_bytes(bytes: &[u8], bench: Bench) -> Bench
 }
 
 // The byte that the sensor sends at this place, if it has one.
+#[tactic(auto, unfolding(bus::specs::Traffic::next_byte))]
 fn sensor_byte(sends: &[u8], at: usize) -> u8
     ensures { result ≡ next_byte (drop at sends.now) }
 {
@@ -197,6 +198,7 @@ fn receive_bytes(n: usize, kind: u8, sends: &[u8], bench: Bench) -> Bench
 }
 
 // Does on the bus what a command asks for.
+#[tactic(auto, unfolding(crate::specs::Model::obey, crate::specs::Tracing::traced, crate::specs::Tracing::heard_all, crate::specs::Tracing::heard, crate::specs::Model::events_of))]
 fn carry_out(command: Command, fifo: &[u8], s: Place, sends: &[u8], bench: Bench) -> Bench
     requires { Fits fifo.now s command bench }
     ensures comes_to { ComesTo bench sends.now (obey command (state_at fifo.now s)) result }
@@ -228,6 +230,7 @@ fn ended(ending: Ending, trace: Trace) -> Traced
 }
 
 // The last command is carried out.
+#[tactic(auto, unfolding(crate::specs::Tracing::traced, crate::specs::Tracing::heard_all, crate::specs::Model::events_of))]
 fn finish(after: Phase, bench: Bench) -> Traced
     ensures resumes { (sends : List ℕ) → result ≡ resumed bench sends (done after) }
     ensures same_trace { result.trace ≡ bench.trace }
@@ -288,6 +291,7 @@ fn trace_words(words: [u32; 8], fifo: &[u8], phase: Phase, sends: &[u8], refuses
 }
 
 // A list from the phase of this number on; another number is stuck.
+#[tactic(auto, unfolding(crate::specs::Model::in_phase, crate::specs::Tracing::traced, crate::specs::Tracing::heard_all, crate::specs::Model::events_of))]
 fn trace_list(words: [u32; 8], fifo: &[u8], phase: u32, sends: &[u8], refuses: usize) -> Traced
     ensures { Tells result (run_of words fifo.now phase sends.now refuses) }
 {

@@ -1,6 +1,6 @@
 -- `controller::inspect_from` meets its contract. The loop's invariant: the verdict on what is left of the words is the verdict on all.
 use Prim.Native.Nat.{◌+◌}
-use mathlib.Core.Path.{◌≡◌, refl, sym, ap, ◌∙◌}
+use mathlib.Core.Path.{◌≡◌, sym, ap, ◌∙◌}
 use mathlib.Core.List.{◌∷◌}
 use lib.ListN.{drop, get_or}
 use native.Mathlib.Omega.{arith}
@@ -32,9 +32,6 @@ whole :
     (run_from 32 c.args.words (record { phase = c.args.phase; fifo = c.args.fifo.now; received = 0 }) willing done)
     ≡ verdict_of (run_list 32 (record { words = c.args.words; fifo = c.args.fifo.now }) c.args.phase willing done)
 whole c = sym (fifo_fits 32 _ c.args.phase c.if-fifo-gt-FIFO.false)
-
-pub loop-i-init : goal.loop-i-init
-loop-i-init c = (omega arith, omega arith, omega arith, refl)
 
 pub returns-in-Malformed : goal.returns-in-Malformed
 returns-in-Malformed c =

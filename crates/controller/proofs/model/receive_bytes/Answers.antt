@@ -1,18 +1,11 @@
 -- `controller::receive_bytes` meets its contract. The loop's invariant: receiving what is left of the bytes, on the trace so far, is the
 -- whole run.
-use native.Mathlib.Nat.{sub-zero}
 use native.Mathlib.Omega.{arith}
 use mathlib.Core.Path.{ap, ◌∙◌}
 use Rattle.controller.specs.Tracing.{traced}
 use Rattle.controller.proofs.LawsTraces.{get_next, get_over}
 use borrow.Author.Rules.{rules}
 use Rattle.controller.proofs.model.receive_bytes.Goals as goal
-
-pub loop-i-init : goal.loop-i-init
-loop-i-init c = (search rules, search rules, search rules, λ a next e. rw sub-zero)
-
-pub store-so_far-requires : goal.store-so_far-requires
-store-so_far-requires c = rw c.note.ensures (search rules)
 
 pub loop-i-preserved : goal.loop-i-preserved
 loop-i-preserved c =

@@ -1,6 +1,6 @@
 -- `controller::run` meets its contract: the trace says all of the run, and is laid where both outputs have room for it.
 use mathlib.Core.Path.{◌∙◌}
-use Rattle.controller.proofs.LawsHeard.{received_held, events_held, short_received, short_events, reports}
+use Rattle.controller.proofs.LawsHeard.{short_received, short_events, reports}
 use Rattle.controller.proofs.model.run.Goals as goal
 
 pub returns-then-received-got : goal.returns-then-received-got
@@ -10,12 +10,6 @@ returns-then-received-got c =
 pub returns-then-events-size : goal.returns-then-events-size
 returns-then-events-size c =
     rw c.no_room-then-events-size.ensures (short_events c.trace_list-traced.ensures _ _ c.if-events-size.true)
-
-pub lay-requires : goal.lay-requires
-lay-requires c = (received_held c.trace_list-traced.ensures, c.if-received-got.false)
-
-pub lay-requires-2 : goal.lay-requires-2
-lay-requires-2 c = (events_held c.trace_list-traced.ensures, c.if-events-size.false)
 
 pub returns : goal.returns
 returns c =

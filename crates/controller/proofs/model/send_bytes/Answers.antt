@@ -1,14 +1,11 @@
 -- `controller::send_bytes` meets its contract. The loop's invariant: sending what is left of the bytes, on the trace so far, is the
 -- whole run.
 use native.Mathlib.Omega.{arith}
-use mathlib.Core.Path.{refl, ap, ◌∙◌}
+use mathlib.Core.Path.{ap, ◌∙◌}
 use Rattle.controller.specs.Tracing.{traced}
 use Rattle.controller.proofs.LawsTraces.{put_refused, put_acknowledged, put_over}
 use borrow.Author.Rules.{rules}
 use Rattle.controller.proofs.model.send_bytes.Goals as goal
-
-pub loop-i-init : goal.loop-i-init
-loop-i-init c = (search rules, search rules, search rules, λ sends next. refl)
 
 pub returns-then-so_far-eq1-clause-comes_to : goal.returns-then-so_far-eq1-clause-comes_to
 returns-then-so_far-eq1-clause-comes_to c =
