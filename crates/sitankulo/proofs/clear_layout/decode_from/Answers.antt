@@ -23,4 +23,4 @@ returns-in-3 c = rw c.in-3.is c.hold-in-3.ensures
 pub returns-in_default : goal.returns-in_default
 unfolding decoded_from
 returns-in_default c =
-    simp (ne_eqb _ 0 (λ e. omega arith), ne_eqb _ 1 (λ e. omega arith), ne_eqb _ 2 (λ e. omega arith), ne_eqb _ 3 (λ e. omega arith))
+    simp (ne_eqb c.args.state 0 (λ e. omega arith), ne_eqb c.args.state 1 (λ e. omega arith), ne_eqb c.args.state 2 (λ e. omega arith), ne_eqb c.args.state 3 (λ e. omega arith))

@@ -65,5 +65,6 @@ pub returns-in_default : goal.returns-in_default
 unfolding name_of
 returns-in_default c =
     let name = name_of c.args.number in
-    untold name c.args.text.now
-    (simp (ne_eqb c.args.number 1 (λ e. omega arith), ne_eqb c.args.number 2 (λ e. omega arith), ne_eqb c.args.number 3 (λ e. omega arith), ne_eqb c.args.number 4 (λ e. omega arith), ne_eqb c.args.number 5 (λ e. omega arith), ne_eqb c.args.number 6 (λ e. omega arith), ne_eqb c.args.number 7 (λ e. omega arith), ne_eqb c.args.number 8 (λ e. omega arith), ne_eqb c.args.number 9 (λ e. omega arith), ne_eqb c.args.number 10 (λ e. omega arith), ne_eqb c.args.number 11 (λ e. omega arith), ne_eqb c.args.number 12 (λ e. omega arith), ne_eqb c.args.number 13 (λ e. omega arith), ne_eqb c.args.number 14 (λ e. omega arith)))
+    let nothing = untold name c.args.text.now
+    (simp (ne_eqb c.args.number 1 (λ e. omega arith), ne_eqb c.args.number 2 (λ e. omega arith), ne_eqb c.args.number 3 (λ e. omega arith), ne_eqb c.args.number 4 (λ e. omega arith), ne_eqb c.args.number 5 (λ e. omega arith), ne_eqb c.args.number 6 (λ e. omega arith), ne_eqb c.args.number 7 (λ e. omega arith), ne_eqb c.args.number 8 (λ e. omega arith), ne_eqb c.args.number 9 (λ e. omega arith), ne_eqb c.args.number 10 (λ e. omega arith), ne_eqb c.args.number 11 (λ e. omega arith), ne_eqb c.args.number 12 (λ e. omega arith), ne_eqb c.args.number 13 (λ e. omega arith), ne_eqb c.args.number 14 (λ e. omega arith))) in
+    record { value = nothing.0; text_after = nothing.1 }
