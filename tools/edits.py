@@ -26,7 +26,7 @@ import sources
 
 ROOT = Path(__file__).resolve().parent.parent
 SAID = re.compile(r'rt: must-fail (?P<name>\S+?)\.edit: (?P<what>.*)')
-REFUSED = re.compile(r'refused, as it must be(?: \([^)]*\))?: (?P<first>.*)')
+REFUSED = re.compile(r'refused, as it must be(?P<only> \(only [^)]*\))?: (?P<first>.*)')
 # What `rt` shows of a line ends here.
 SHOWN = 160
 REJECTED = re.compile(r'(?:\./)?(?P<file>[^\s:]+):\d+:\d+: error: `(?P<name>[^`]+)`')
@@ -125,7 +125,7 @@ def fact_of(crate, line, folder):
 def judged(edit, what, folder):
     """Whether an edit of the crate in a folder was refused as it must be, by what `rt` said of it, and the words for it."""
     refused = REFUSED.fullmatch(what)
-    if not refused:
+    if not refused or 'names what the edit took away' in (refused['only'] or ''):
         return False, what or 'NOT TRIED'
     fact, is_cut = fact_of(edit.crate, refused['first'], folder)
     if not fact or not (edit.fact == fact or is_cut and edit.fact.startswith(fact)):

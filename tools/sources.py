@@ -20,7 +20,7 @@ ITEM = re.compile(
     + r'|(?P<brace>[{}])',
     re.S)
 CLAUSE_OR_BODY = re.compile(
-    CODE_SKIPPED + r'|\b(?P<clause>ghost|requires|ensures)\b\s*\w*\s*\{|(?P<body>\{)', re.S)
+    CODE_SKIPPED + r'|\b(?P<clause>ghost|requires|ensures)\b\*?\s*\w*\s*:?\s*\{|(?P<body>\{)', re.S)
 CODE_COMMENT = re.compile(r'//[^\n]*|/\*.*?\*/', re.S)
 
 USE = re.compile(r'^(?:pub |ghost )?use\s+([^\s;{]+?)(?:\.\{([^}]*)\}|\s+as\s+(\S+?))?;?[ \t]*$', re.M)
@@ -49,9 +49,9 @@ def listed_crates(root):
     """Yields (line, name, the line above) of each crate in crates.txt."""
     above = ''
     for number, line in enumerate(read(root / 'crates.txt').splitlines(), 1):
-        name = line.split('#')[0].split(':')[0].strip()
+        name = line.split('#')[0].split(':')[0].split()
         if name:
-            yield number, name, above
+            yield number, name[0], above
         above = line
 
 
@@ -77,7 +77,7 @@ def imports(text):
         for item in items.split(','):
             name, _, renamed = (part.strip() for part in item.partition(' as '))
             if name:
-                brought[(renamed or name).strip('_')] = f'{module}.{name}'
+                brought[(renamed or name).strip('◌')] = f'{module}.{name}'
     return brought
 
 
