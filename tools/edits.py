@@ -67,7 +67,8 @@ def read_edit(file):
         elif word == 'new':
             edit.changes.append((changed, old, rest))
         elif word == 'fact':
-            edit.fact = rest.strip()
+            place, _, name = rest.strip().partition(' ')
+            edit.fact = f'{place_of(edit.crate, place)} {name}'.strip()
     return edit
 
 
@@ -106,14 +107,18 @@ def edited(edit, folder):
 
 # ---- what rt says of them
 
+def place_of(crate, file):
+    """How a fact names a file of proofs: by the function, where it is a part of one's proof."""
+    function = PROOF_OF_A_FUNCTION.fullmatch(file)
+    return '::'.join([crate, *function['path'].split('/')]) if function else file
+
+
 def fact_of(crate, line, folder):
     """The fact that the first line of a refusal tells of, and whether the line is cut short in it. A line of code keeps its number in an
     edit, which puts one line in the place of one."""
     found = REJECTED.match(line)
     if found:
-        function = PROOF_OF_A_FUNCTION.fullmatch(found['file'])
-        where = '::'.join([crate, *function['path'].split('/')]) if function else found['file']
-        return f'{where} {found["name"]}', False
+        return f'{place_of(crate, found["file"])} {found["name"]}', False
     found = UNPROVED.match(line)
     if found:
         module = [part for part in Path(found['file']).with_suffix('').parts[1:] if part not in ('lib', 'main')]
