@@ -7,20 +7,15 @@ test:
 # Shows what a script comes to, the white-reference fetch or another: make run SCRIPT=examples/settings.txt
 SCRIPT = examples/white_reference.txt
 
-run: target/unproved/plan
-	@tools/run $< <$(SCRIPT)
-
-# A program in seconds, without its proof.
-target/unproved/%: crates.txt $(shell find crates -name '*.rt')
-	@echo '$* is not proved here; make test proves it.' >&2
-	@mkdir -p target/unproved
-	@python3 tools/unproved.py $*
+run:
+	@echo 'plan is not proved here; make test proves it.' >&2
+	@cd crates/plan && rt try <$(abspath $(SCRIPT))
 
 # Writes down what is stated, a line for each public call, promised theorem and definition: docs/STATEMENTS.txt.
 statements:
 	@python3 tools/statements.py --write
 
-# The rules alone, and the tests of the tools. Some rules read what the last `rt check` or `rt ci` reported.
+# The rules alone, and the tests of the tools.
 rules:
 	python3 -m unittest discover -s tools/tests
 	python3 tools/rules.py
@@ -69,7 +64,7 @@ bench: lib
 	@$(MAKE) --no-print-directory -C host/bench
 
 fmt:
-	rt fmt
+	@for crate in crates/*; do (cd $$crate && rt fmt) || exit; done
 
 clean:
 	rm -rf target host/*/target tools/__pycache__

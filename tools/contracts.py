@@ -1,11 +1,10 @@
-"""The contract of a public function as equations: what it returns, and what each lent memory holds at exit."""
+"""The contract of a public function as equations: what it returns, and what each lent memory holds in the end."""
 
 import re
 
 import sources
 from statements import file_of_module
 
-ENSURES = re.compile(r'λ (\S+?)\. ?⌜(.*)⌝')
 PARAMETER = re.compile(r"\b(\w+)\s*:\s*&\s*(?:'\w+\s+)?mut\b")
 OPENS, CLOSES = '({[', ')}]'
 
@@ -97,11 +96,7 @@ def equations(function, file, reader):
     for kind, clause in function.clauses:
         if kind != 'ensures':
             continue
-        said = ENSURES.fullmatch(sources.normal(clause))
-        if not said:
-            others.append(sources.normal(clause))
-            continue
-        for fact in facts(substituted(said[2].strip(), {said[1]: 'r'}), file, reader):
+        for fact in facts(sources.normal(clause).strip(), file, reader):
             sides = parted(fact, '≡')
             if len(sides) == 2:
                 equal[unwrapped(sides[0])] = sides[1]
@@ -111,10 +106,10 @@ def equations(function, file, reader):
 
 
 def owed(function):
-    """The left sides that a contract has to settle: the result, and each lent memory at exit."""
+    """The left sides that a contract has to settle: the result, and what each lent memory holds in the end."""
     head = re.split(r'\b(?:ghost|requires|ensures)\b', function.text)[0]
-    result = ['r'] if '->' in head else []
-    return result + [f'now({name} .exit)' for name in PARAMETER.findall(head)]
+    result = ['result'] if '->' in head else []
+    return result + [f'{name}.new' for name in PARAMETER.findall(head)]
 
 
 def weaknesses(function, file, reader):
@@ -125,8 +120,8 @@ def weaknesses(function, file, reader):
     for left in owed(function):
         if left not in equal:
             yield f'no equation for `{left}`'
-        elif '.exit' in equal[left] or (left == 'r' and 'r' in sources.tokens(equal[left])):
+        elif '.new' in equal[left] or (left == 'result' and 'result' in sources.tokens(equal[left])):
             yield f'`{left}` is said by what is left itself: `{equal[left]}`'
     for left in equal:
         if left not in owed(function):
-            yield f'an equation for `{left}`, which is neither the result nor lent memory at exit'
+            yield f'an equation for `{left}`, which is neither the result nor what lent memory holds in the end'

@@ -8,9 +8,11 @@ from pathlib import Path
 import sources
 
 TALLY = re.compile(r'(\d+) passed, (\d+) failed')
-CRATE_PROVED = re.compile(r'rt: (\w+) proved \((\d+) s\)')
+CRATE_PROVED = re.compile(r'rt: \w+ (?:proved$|is kept: an earlier run on this machine proved the same)')
 EDIT_REFUSED = re.compile(r'rt: must-fail \S+: refused, as it must be')
-PROGRAM_RAN = re.compile(r"rt: \w+ ran .*wrote what its file 'stdout' has")
+# On its line `rt: ok` it counts edits that it could not try, and passes all the same.
+EDITS_BAD = re.compile(r'rt: ok;.*?; must-fail edits: [^;]*?(\d+) bad')
+PROGRAM_RAN = re.compile(r'rt: \w+ ran, and wrote what its file stdout has')
 CARGO_RESULT = re.compile(r'test result: \w+\. (\d+) passed; (\d+) failed; (\d+) ignored; \d+ measured; (\d+) filtered out')
 COMPARED = re.compile(r'compared (\d+) answers')
 C_CHECKS = re.compile(r'plain: (\d+) passed, 0 failed')
@@ -42,10 +44,11 @@ def matching(pattern, lines):
 
 
 def of_proofs(lines):
-    """`rt ci`: its last line counts crates and must-fail edits; a program that is proved is counted once more where it ran well."""
+    """`rt ci`: its last line counts crates and must-fail edits; a program that is proved is counted once more where it ran well. Edits
+    that it calls bad have failed."""
     count = last_line(lines)
     ran = matching(PROGRAM_RAN, lines)
-    return Count(count.passed + ran, count.failed, Counter({
+    return Count(count.passed + ran, count.failed + summed(EDITS_BAD, lines), Counter({
         'crates proved': matching(CRATE_PROVED, lines), 'programs run': ran, 'edits refused by rt ci': matching(EDIT_REFUSED, lines)}))
 
 

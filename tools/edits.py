@@ -1,40 +1,37 @@
 #!/usr/bin/env python3
-"""Tries the edits that must be refused.
+"""Holds the edits that must be refused to their facts.
 
-    python3 tools/edits.py [CRATE[/LABEL]..]     tries those of some crates, or some edits alone
-    python3 tools/edits.py --beside-the-proofs   tries all, each crate's as soon as `rt ci` has proved the crate
+    python3 tools/edits.py [CRATE[/LABEL]..]     has `rt must-fail` try those of some crates, or some edits alone
+    python3 tools/edits.py --said FILE           judges all by what `rt ci` printed, which the file has
 
-An edit stands in crates/CRATE/must-fail/LABEL.edit, where `rt ci` tries it too, or in must-fail/more/LABEL.edit. Its lines are
+An edit stands in crates/CRATE/must-fail/LABEL.edit. Its lines are
 
     file: src/lib.rt              the file to change
     old: number <= 11             a text that stands there once
     new: number <= 12             what is put in its place; there may be several such pairs
-    fact: proofs/told/Proof.antt returns-2        where the first error has to stand: the file, and the declaration in it
+    fact: names::told returns-2   where it has to be refused first, which `rt` passes over
 
-An edit fails where it does not apply, where the crate is still proved with it, and where it is refused elsewhere than at its fact. The
-crate is checked over a copy of what the checker kept when it was proved, so that only what the edit touches is checked again.
+A fact is a goal of a function's proof, by the function and the goal, or a declaration of a file, as `proofs/Words.antt decode_encode`.
+An edit fails where `rt` does not refuse it, and where it is refused first elsewhere than at its fact.
 The last line is `N passed, M failed`, over the edits.
 """
 
-import os
-import queue
 import re
-import shutil
+import subprocess
 import sys
-import time
-from concurrent.futures import ThreadPoolExecutor
 from dataclasses import dataclass, field
 from pathlib import Path
 
-import kit
 import sources
 
 ROOT = Path(__file__).resolve().parent.parent
-# Stands there once `rt ci` has ended, for who runs beside it.
-ENDED = Path('target/proofs-ended')
-# An error that only follows from another is none of its own.
-ERROR = re.compile(r'^(?P<file>\S+?):\d+:\d+: error: `(?P<name>[^`]+)`(?!: `[^`]+` was not admitted)')
-UNPROVED = re.compile(r'^fn \S+: no proof: expected `\S+` in (?P<file>\S+); `search` does not close `(?P<name>[^`]+)`')
+SAID = re.compile(r'rt: must-fail (?P<name>\S+?)\.edit: (?P<what>.*)')
+REFUSED = re.compile(r'refused, as it must be(?P<only> \(only [^)]*\))?: (?P<first>.*)')
+# What `rt` shows of a line ends here.
+SHOWN = 160
+REJECTED = re.compile(r'(?:\./)?(?P<file>[^\s:]+):\d+:\d+: error: `(?P<name>[^`]+)`')
+UNPROVED = re.compile(r'note: (?P<file>[^\s:]+):(?P<line>\d+):\d+: it is not proved that .*?\(`(?P<goal>[^`]+)')
+PROOF_OF_A_FUNCTION = re.compile(r'proofs/(?P<path>.+)/(?:Answers|Invariants|Proof)\.antt')
 
 
 class BadEdit(Exception):
@@ -53,10 +50,11 @@ class Edit:
         return f'{self.crate}/{self.label}'
 
 
+# ---- the edits
+
 def read_edit(file):
     """An edit as its file has it; lines that are none of an edit's are passed over, as `rt` does."""
-    crate = next(folder for folder in file.parents if (folder / 'src').is_dir()).name
-    edit, changed, old = Edit(crate, file.stem), '', None
+    edit, changed, old = Edit(file.parent.parent.name, file.stem), '', None
     for line in sources.read(file).splitlines():
         word, colon, rest = line.partition(':')
         rest = rest[1:] if rest.startswith(' ') else rest
@@ -69,103 +67,13 @@ def read_edit(file):
         elif word == 'new':
             edit.changes.append((changed, old, rest))
         elif word == 'fact':
-            edit.fact = rest.strip()
+            place, _, name = rest.strip().partition(' ')
+            edit.fact = f'{place_of(edit.crate, place)} {name}'.strip()
     return edit
 
 
 def edits_of(root, crate):
-    """The edits of a crate: those that `rt ci` tries too, then the others."""
-    folder = root / 'crates' / crate / 'must-fail'
-    return [read_edit(file) for file in [*sorted(folder.glob('*.edit')), *sorted(folder.glob('more/*.edit'))]]
-
-
-def apply(edit, folder):
-    """Changes the copy of the crate that stands in a folder."""
-    if not edit.changes:
-        raise BadEdit('it changes nothing')
-    if len(edit.fact.split()) != 2:
-        raise BadEdit("it names no fact: a line 'fact: FILE DECLARATION'")
-    for name, old, new in edit.changes:
-        file = folder / name
-        if not name.startswith(('src/', 'specs/')) or '..' in name or not file.is_file():
-            raise BadEdit(f"'{name}' is no file of the crate's src/ or specs/")
-        text = sources.read(file)
-        if not old or text.count(old) != 1:
-            raise BadEdit(f"its old text stands {text.count(old) if old else 0} times in {name}")
-        file.write_text(text.replace(old, new), encoding='utf-8')
-
-
-def refused_at(said, folder):
-    """The fact at which a check first refuses: the file and the declaration."""
-    for pattern in (ERROR, UNPROVED):
-        for line in said.splitlines():
-            found = pattern.match(line)
-            if found:
-                return f'{os.path.relpath(found["file"], folder)} {found["name"]}'
-    return ''
-
-
-def judged(edit, status, said, folder):
-    """Whether a checked edit has been refused as it must be, and the words for it."""
-    if status == 0:
-        return False, 'NOT REFUSED: the crate is still proved with this edit'
-    if status != 1 or 'logic=not-proved' not in said:
-        return False, 'BAD EDIT: it did not reach the prover:\n' + '\n'.join(said.splitlines()[:5])
-    fact = refused_at(said, folder)
-    if fact != edit.fact:
-        return False, f'REFUSED ELSEWHERE: at {fact or "no declaration"}, and its fact is {edit.fact}'
-    return True, f'refused at {fact}'
-
-
-class Bench:
-    """A folder in which crates are checked over what the checker kept of them."""
-
-    def __init__(self, root):
-        self.root, self.folder = root, root / 'target/edits'
-        shutil.rmtree(self.folder, ignore_errors=True)
-        self.kept_name = kit.incremental_name(self.folder)
-
-    def keep(self, crate):
-        """What the checker kept of a crate: a library's checked modules stand in its rlib, a program is checked once more."""
-        kept = self.folder / crate / 'kept'
-        kept.mkdir(parents=True)
-        modules = kit.rlib(self.root, crate) / 'toolchain/checked'
-        if modules.is_dir():
-            shutil.copytree(modules, kept / self.kept_name)
-        else:
-            self.check(crate, self.root / 'crates' / crate, kept)
-
-    def check(self, crate, folder, kept):
-        return kit.rattle('check', kit.crate_words(self.root, crate, folder, [*kit.built_logic(), '--incremental', kept]))
-
-    def attempt(self, edit):
-        """Tries an edit; returns whether it was refused as it must be, and what there is to say of it."""
-        began, copy = time.monotonic(), self.folder / edit.crate / edit.label
-        for part in ('src', 'specs', 'proofs'):
-            if (self.root / 'crates' / edit.crate / part).is_dir():
-                shutil.copytree(self.root / 'crates' / edit.crate / part, copy / part)
-        try:
-            apply(edit, copy)
-        except BadEdit as bad:
-            return False, f'{edit.name}: BAD EDIT: {bad}'
-        kit.link_tree(self.folder / edit.crate / 'kept', copy / 'kept')
-        checked = self.check(edit.crate, copy, copy / 'kept')
-        (copy / 'log').write_text(checked.stdout, encoding='utf-8')
-        shutil.rmtree(copy / 'kept')
-        well, words = judged(edit, checked.returncode, checked.stdout, copy)
-        return well, f'{edit.name}: {words} ({time.monotonic() - began:.0f} s)'
-
-
-def is_proved(root, crate):
-    """Whether `rt` has proved a crate: a library has its stamp, a program, which has yet to be run, a stamp beside its log."""
-    return (root / 'target/stamp' / crate).exists() or (root / 'target/log' / f'{crate}.stamp').exists()
-
-
-def wait_for(root, crate):
-    """Waits until a crate is proved, or `rt ci` has ended; returns whether it is."""
-    while not is_proved(root, crate) and not (root / ENDED).exists():
-        time.sleep(0.5)
-    return is_proved(root, crate)
+    return [read_edit(file) for file in sorted((root / 'crates' / crate / 'must-fail').glob('*.edit'))]
 
 
 def wanted(root, names):
@@ -180,33 +88,84 @@ def wanted(root, names):
     return {crate: each for crate, each in edits.items() if each}
 
 
-def keep_and_try(bench, crate, edits, pool, results):
-    """Lays down what is kept of a crate, and then has its edits tried."""
-    bench.keep(crate)
-    for edit in edits:
-        pool.submit(lambda edit=edit: results.put(bench.attempt(edit)))
+def edited(edit, folder):
+    """The texts of the files that an edit of the crate in a folder changes, by their path in it."""
+    if not edit.changes:
+        raise BadEdit('it changes nothing')
+    if len(edit.fact.split()) != 2:
+        raise BadEdit("it names no fact: a line 'fact: FUNCTION GOAL' or 'fact: FILE DECLARATION'")
+    texts = {}
+    for name, old, new in edit.changes:
+        if not name.startswith(('src/', 'specs/')) or '..' in name or not (folder / name).is_file():
+            raise BadEdit(f"'{name}' is no file of the crate's src/ or specs/")
+        text = texts.get(name) or sources.read(folder / name)
+        if not old or text.count(old) != 1:
+            raise BadEdit(f"its old text stands {text.count(old) if old else 0} times in {name}")
+        texts[name] = text.replace(old, new)
+    return texts
 
 
-def try_all(edits, beside):
-    """Yields what comes of each edit, as it comes: whether it was refused as it must be, and the words for it."""
-    results, bench = queue.SimpleQueue(), None
-    with ThreadPoolExecutor(int(os.environ.get('EDIT_JOBS', os.cpu_count() or 1))) as pool:
-        awaited = 0
-        for crate, each in edits.items():
-            if not is_proved(ROOT, crate) and not (beside and wait_for(ROOT, crate)):
-                yield from ((False, f'{edit.name}: {crate} is not proved: rt check {crate}') for edit in each)
-                continue
-            bench = bench or Bench(ROOT)
-            pool.submit(keep_and_try, bench, crate, each, pool, results)
-            awaited += len(each)
-        for _ in range(awaited):
-            yield results.get()
+# ---- what rt says of them
+
+def place_of(crate, file):
+    """How a fact names a file of proofs: by the function, where it is a part of one's proof."""
+    function = PROOF_OF_A_FUNCTION.fullmatch(file)
+    return '::'.join([crate, *function['path'].split('/')]) if function else file
+
+
+def fact_of(crate, line, folder):
+    """The fact that the first line of a refusal tells of, and whether the line is cut short in it. A line of code keeps its number in an
+    edit, which puts one line in the place of one."""
+    found = REJECTED.match(line)
+    if found:
+        return f'{place_of(crate, found["file"])} {found["name"]}', False
+    found = UNPROVED.match(line)
+    if found:
+        module = [part for part in Path(found['file']).with_suffix('').parts[1:] if part not in ('lib', 'main')]
+        path = sources.function_at(sources.read(folder / found['file']), int(found['line']))
+        return f'{"::".join([crate, *module, *path])} {found["goal"]}', found.end() == len(line) >= SHOWN
+    return '', False
+
+
+def judged(edit, what, folder):
+    """Whether an edit of the crate in a folder was refused as it must be, by what `rt` said of it, and the words for it."""
+    refused = REFUSED.fullmatch(what)
+    if not refused or 'names what the edit took away' in (refused['only'] or ''):
+        return False, what or 'NOT TRIED'
+    fact, is_cut = fact_of(edit.crate, refused['first'], folder)
+    if not fact or not (edit.fact == fact or is_cut and edit.fact.startswith(fact)):
+        return False, f'REFUSED ELSEWHERE: at {fact or "no declaration"}, and its fact is {edit.fact}'
+    return True, f'refused at {edit.fact}'
+
+
+def judge_all(root, edits, lines):
+    """Yields what comes of each edit: whether it was refused as it must be, and the words for it."""
+    said = {found['name']: found['what'] for found in map(SAID.match, lines) if found}
+    for crate, each in edits.items():
+        for edit in each:
+            try:
+                edited(edit, root / 'crates' / crate)
+                well, words = judged(edit, said.get(edit.name, ''), root / 'crates' / crate)
+            except BadEdit as bad:
+                well, words = False, f'BAD EDIT: {bad}'
+            yield well, f'{edit.name}: {words}'
+
+
+def tried(root, crates):
+    """What `rt must-fail` says of the edits of some crates."""
+    said = subprocess.run(['rt', 'must-fail', *crates], cwd=root, stdin=subprocess.DEVNULL, stdout=subprocess.PIPE,
+                          stderr=subprocess.STDOUT, encoding='utf-8', errors='replace').stdout
+    return said.splitlines()
 
 
 def main(arguments):
-    edits = wanted(ROOT, [word for word in arguments if not word.startswith('--')])
+    if arguments[:1] == ['--said']:
+        edits, lines = wanted(ROOT, []), sources.read(Path(arguments[1])).splitlines()
+    else:
+        edits = wanted(ROOT, arguments)
+        lines = tried(ROOT, edits)
     passed = failed = 0
-    for well, words in try_all(edits, '--beside-the-proofs' in arguments):
+    for well, words in judge_all(ROOT, edits, lines):
         print(words, flush=True)
         passed, failed = passed + well, failed + (not well)
     print(f'{passed} passed, {failed} failed')

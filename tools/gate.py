@@ -1,10 +1,9 @@
 #!/usr/bin/env python3
 """The gate: proofs, edits that must be refused, rules, host tests, tests from C. Its last line is `N passed, M failed`, over all of them.
 
+It begins with `rt ci`, over the checkout as it stands; what that made is what the parts after it take.
 Parts that do not wait for each other run beside each other. What a part prints is shown when it ends; of `rt ci` line by line."""
 
-import os
-import shutil
 import subprocess
 import sys
 import threading
@@ -14,12 +13,14 @@ from dataclasses import dataclass, field
 from pathlib import Path
 
 import counting
-import edits
 import sources
 import statements
 from counting import TALLY, Count
 
 ROOT = Path(__file__).resolve().parent.parent
+
+# What `rt ci` printed, for the parts that read it.
+SAID = Path('target/rt-ci.log')
 
 # The cargo projects whose tests are run; one that is missing fails, and so does one that is not named here.
 HOST_TESTS = ('oracle', 'differential')
@@ -34,6 +35,7 @@ class Part:
     needs: tuple = ()            # the parts that have to end before
     optional: str = ''           # what it counts, where the machine may not have what it takes
     shown: bool = False          # line by line, as it goes
+    kept: Path = None            # where its lines are written once it has ended
     ended: threading.Event = field(default_factory=threading.Event)
     result: Count = None
     seconds: float = 0
@@ -74,6 +76,9 @@ def carry_out(part, parts):
         parts[name].ended.wait()
     began = time.monotonic()
     wrong = run(part)
+    if part.kept:
+        part.kept.parent.mkdir(parents=True, exist_ok=True)
+        part.kept.write_text(''.join(f'{line}\n' for line in part.lines), encoding='utf-8')
     part.result = part.count(part.lines)
     part.seconds = time.monotonic() - began
     if not wrong and not part.result.passed and not part.optional:
@@ -107,12 +112,12 @@ def host_tests(root):
 def all_parts(root):
     python, make = [sys.executable], ['make', '--no-print-directory']
     return [
-        Part('rt ci', ['sh', '-c', f'rt ci; status=$?; touch {edits.ENDED}; exit $status'], counting.of_proofs, shown=True),
-        Part('edits', python + ['tools/edits.py', '--beside-the-proofs'], counting.told_as('edits refused')),
+        Part('rt ci', ['rt', 'ci'], counting.of_proofs, root, shown=True, kept=root / SAID),
+        Part('edits', python + ['tools/edits.py', '--said', SAID], counting.told_as('edits refused'), needs=('rt ci',)),
         Part('tools', python + ['-m', 'unittest', 'discover', '-s', 'tools/tests'], counting.of_unittest),
-        Part('rules', python + ['tools/rules.py'], counting.told_as('rules'), needs=('rt ci',)),
+        Part('rules', python + ['tools/rules.py'], counting.told_as('rules')),
         *host_tests(root),
-        Part('library', make + ['lib'], lambda lines: Count(int(bool(lines))), needs=('rt ci',)),
+        Part('library', python + ['tools/library.py', 'proved'], lambda lines: Count(int(bool(lines))), needs=('rt ci',)),
         Part('C calls', make + ['ctest'], counting.of_c_tests, needs=('library',)),
         Part('C calls against the Rust original', make + ['soak', 'COUNT=300000', 'SEED=1'], counting.of_soak, needs=('library',)),
         Part('C calls, fuzzed', make + ['fuzz', 'SECONDS=60', 'SEED=1'], counting.of_fuzzing, needs=('C calls',), optional='fuzz inputs'),
@@ -125,10 +130,6 @@ def print_times(parts):
     print('\n  seconds  passed  failed  part')
     for part in parts:
         print(f'{part.seconds:9.1f}{part.result.passed:8}{part.result.failed:8}  {part.name}')
-    crates = [counting.CRATE_PROVED.match(line) for part in parts for line in part.lines]
-    print('\n  seconds  crate')
-    for crate in sorted(filter(None, crates), key=lambda crate: -int(crate[2])):
-        print(f'{crate[2]:>9}  {crate[1]}')
 
 
 def print_counts(counted, floor):
@@ -139,8 +140,6 @@ def print_counts(counted, floor):
 
 def main():
     sys.stdout.reconfigure(encoding='utf-8', errors='replace', line_buffering=True)
-    os.environ.setdefault('RT_JOBS', str(max(2, (os.cpu_count() or 2) + 1)))
-    shutil.rmtree(ROOT / 'target', ignore_errors=True)
     parts = all_parts(ROOT)
     carry_out_all(parts)
 

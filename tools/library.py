@@ -2,11 +2,12 @@
 """The library for C.
 
     library.py                   builds target/library/libsitankulo.a for the machine at hand, checks it and prints its size
+    library.py proved            the same, over the libraries that the `rt ci` that just ended has proved
     library.py install PREFIX    installs it, with its header and a pkg-config file, below PREFIX
 
-The library is compiled from what `rt check` has proved: the checker takes the modules that it kept in the crates' rlibs, and proves
-nothing a second time. The kit is called through a folder of links to it, in which clang alone is another: tools/library_clang, which compiles the
-same proved module for this machine, with our settings. The module's text is kept beside the library, for `make fuzz`.
+The library is the crate sitankulo_c over the libraries below it, compiled from what was proved. The kit's toolchain is called through a
+folder of links to it, in which clang alone is another: tools/library_clang, which compiles the same proved module for this machine, with
+our settings. The module's text is kept beside the library, for `make fuzz`.
 """
 
 import os
@@ -15,12 +16,14 @@ import re
 import shutil
 import subprocess
 import sys
+import tempfile
 from pathlib import Path
 
 import kit
 
 ROOT = Path(__file__).resolve().parent.parent
 NAME = 'sitankulo'
+CRATE = 'sitankulo_c'
 OUT = ROOT / 'target/library'
 LIBRARY = OUT / f'lib{NAME}.a'
 HEADER = ROOT / f'include/{NAME}.h'
@@ -40,52 +43,43 @@ def output(*command):
 
 # ---- building
 
-def toolchain():
-    """The kit's toolchain, with our clang in front of its own."""
-    linked = OUT / 'toolchain'
-    shutil.rmtree(linked, ignore_errors=True)
-    kit.link_toolchain(linked)
-    (linked / 'bin/clang').symlink_to(ROOT / 'tools/library_clang')
-    return linked
+def is_from_ci():
+    """Whether the libraries below are those that `rt ci` built: it proves them from nothing, and leaves no stamp."""
+    rlibs = [kit.rlib_of(ROOT, name) for name in kit.own_below(ROOT, CRATE)]
+    return all((rlib / 'format').is_file() and not (rlib.parent / 'stamp').exists() for rlib in rlibs)
 
 
 def prove():
-    """Proves the crate where it has changed since it was last proved."""
-    checked = subprocess.run(['rt', 'check', NAME], cwd=ROOT, stdin=subprocess.DEVNULL, stdout=subprocess.PIPE, stderr=subprocess.STDOUT,
-                             encoding='utf-8')
-    if checked.returncode != 0:
-        fail(f'{NAME} is not proved:\n{checked.stdout}')
-
-
-def kept_modules():
-    """A cache for the checker, filled with all that was checked before: the kit's logic, and the modules in the rlibs of proved crates."""
-    cache = OUT / 'kept'
-    shutil.rmtree(cache, ignore_errors=True)
-    kept = cache / kit.incremental_name(OUT)
-    shutil.copytree(kit.own() / 'logic-built', kept)
-    for rlib in [*(ROOT / 'target/rlib').glob('*.rlib'), *(kit.own() / 'rlib').glob('*.rlib')]:
-        if (rlib / 'toolchain/checked').is_dir():
-            shutil.copytree(rlib / 'toolchain/checked', kept, dirs_exist_ok=True)
-    return cache
-
-
-def modules_in(cache):
-    return {file: file.stat().st_mtime_ns for file in cache.rglob('*.oantt')}
+    """Proves the crate, and the libraries below it, where they have changed since they were last proved."""
+    proved = subprocess.run(['rt', 'lib'], cwd=ROOT / 'crates' / CRATE, stdin=subprocess.DEVNULL, stdout=subprocess.PIPE,
+                            stderr=subprocess.STDOUT, encoding='utf-8', errors='replace')
+    if proved.returncode != 0:
+        fail(f'{CRATE} is not proved:\n{proved.stdout}')
 
 
 def compile_proved(new):
-    """Compiles what was proved, and returns how many modules the checker found checked, and how many it checked again."""
-    cache, tools = kept_modules(), toolchain()
-    before = modules_in(cache)
-    words = kit.crate_words(ROOT, NAME, ROOT / 'crates' / NAME, ['--cache', cache])
-    built = kit.rattle('build', [*words, '--toolchain', str(tools), '--crate-type', 'staticlib', '-o', str(new)])
-    again = len(modules_in(cache).items() - before.items())
-    shutil.rmtree(cache)
-    (OUT / 'build.log').write_text(built.stdout, encoding='utf-8')
-    if built.returncode != 0:
-        fail(f'it was not built:\n{built.stdout}')
-    (tools / 'bin/module.ll').replace(OUT / f'{NAME}.ll')
-    return len([file for file in before if f'Rattle·{NAME}' in file.name]), again
+    """Compiles the proved library for this machine, and returns what the checker said."""
+    kept = ROOT / 'crates' / CRATE / 'out/incremental'
+    with tempfile.TemporaryDirectory() as folder:
+        # outside the checkout, where `rt ci` takes no link
+        tools = Path(folder) / 'toolchain'
+        kit.link_toolchain(tools)
+        (tools / 'bin/clang').symlink_to(ROOT / 'tools/library_clang')
+        built = kit.rattle('build', [*kit.crate_words(ROOT, CRATE), *(['--incremental', kept] if kept.is_dir() else []), '--toolchain', tools,
+                                     '--backend', 'llvm', '--crate-type', 'staticlib', '-o', new])
+        (OUT / 'build.log').write_text(built.stdout, encoding='utf-8')
+        if built.returncode != 0:
+            fail(f'it was not built:\n{built.stdout}')
+        shutil.copy(tools / 'bin/module.ll', OUT / f'{NAME}.ll')
+    return built.stdout
+
+
+def check_assumed(said):
+    """The proof rests on the contract of no C function: of all that are declared it reaches none."""
+    lines = [line for line in said.splitlines() if line.startswith('axioms ')]
+    reached = [line for line in lines if ': none reached ' not in line]
+    if reached or not lines or not re.search(r'^logic=proved (?!.*\b(?:axioms|foreign)=)', said, re.M):
+        fail('it rests on contracts that are assumed:\n' + '\n'.join(reached or said.splitlines()[-1:]))
 
 
 def symbols(*words):
@@ -110,15 +104,17 @@ def size(library, sections):
     return sum(int(words[1]) for words in lines if len(words) == 3 and words[0].startswith(sections))
 
 
-def build():
+def build(after_ci):
     OUT.mkdir(parents=True, exist_ok=True)
-    prove()
+    if not (after_ci and is_from_ci()):
+        prove()
     new = OUT / 'new.a'
-    proved, again = compile_proved(new)
+    said = compile_proved(new)
+    check_assumed(said)
     check(new)
     new.replace(LIBRARY)
     print(f'{LIBRARY.relative_to(ROOT)} for {platform.machine()}: {size(LIBRARY, (".text",))} bytes of code, '
-          f'{size(LIBRARY, (".rodata", ".data"))} bytes of tables, from {proved} proved modules, {again} checked again')
+          f'{size(LIBRARY, (".rodata", ".data"))} bytes of tables; no C function is called')
 
 
 # ---- installing
@@ -148,8 +144,8 @@ Cflags: -I${{includedir}}
 
 
 if __name__ == '__main__':
-    if sys.argv[1:] == []:
-        build()
+    if sys.argv[1:] in ([], ['proved']):
+        build(after_ci=sys.argv[1:] == ['proved'])
     elif len(sys.argv) == 3 and sys.argv[1] == 'install':
         install(sys.argv[2])
     else:

@@ -18,6 +18,7 @@ import os
 import re
 import shutil
 import sys
+import tempfile
 from concurrent.futures import ThreadPoolExecutor
 from dataclasses import dataclass
 from pathlib import Path
@@ -30,7 +31,6 @@ import statements
 import theory
 
 ROOT = Path(__file__).resolve().parent.parent
-WORK = ROOT / 'target/mutants'
 
 WORD = re.compile(r"[^\s(){}\[\],;]+")
 EXCHANGED = {'true': 'false', 'false': 'true', 'ltb': 'leb', 'leb': 'ltb', '&&': '||', '||': '&&', '/': '%', '%': '/', '+': '-', '-': '+',
@@ -186,9 +186,10 @@ def promised(root):
 
 
 class Bench:
-    def __init__(self, root):
-        self.tree, self.kept, self.promised = WORK / 'theory', WORK / 'kept', promised(root)
-        shutil.rmtree(WORK, ignore_errors=True)
+    """A folder, outside the checkout, in which changed theories are checked over what the checker kept of the theory as it is."""
+
+    def __init__(self, root, work):
+        self.work, self.tree, self.kept, self.promised = work, work / 'theory', work / 'kept', promised(root)
         theory.lay_out(root, self.tree)
         said = theory.check(self.tree, self.kept)
         if 'logic=proved' not in said:
@@ -196,7 +197,7 @@ class Bench:
 
     def noticed(self, number, change):
         """The promised theorems that notice a change; none where the definition itself makes no sense any more."""
-        folder = WORK / f'change-{number}'
+        folder = self.work / f'change-{number}'
         kit.link_tree(self.tree, folder / 'theory')
         kit.link_tree(self.kept, folder / 'kept')
         file = folder / 'theory/crates' / change.file
@@ -213,18 +214,23 @@ class Bench:
         return change, sorted(set(rejected) & set(self.promised), key=lambda there: (not self.promised[there], rejected.index(there)))
 
 
-def main(arguments):
-    wanted = [word for word in arguments if not word.startswith('--')]
-    tried = list(changes(ROOT, wanted))
-    bench = Bench(ROOT)
-    noticed = by_rows = unnoticed = senseless = 0
+def try_all(changed, work):
+    """Yields each change with the theorems that notice it, rows first, and whether the first is computed."""
+    bench = Bench(ROOT, work)
     with ThreadPoolExecutor(int(os.environ.get('EDIT_JOBS', os.cpu_count() or 1))) as pool:
-        for change, by in pool.map(bench.noticed, itertools.count(), tried):
+        for change, by in pool.map(bench.noticed, itertools.count(), changed):
+            yield change, by, bool(by) and bench.promised[by[0]]
+
+
+def main(arguments):
+    tried = list(changes(ROOT, [word for word in arguments if not word.startswith('--')]))
+    noticed = by_rows = unnoticed = senseless = 0
+    with tempfile.TemporaryDirectory() as work:
+        for change, by, computed in try_all(tried, Path(work).resolve()):
             if by is None:
                 senseless += 1
                 continue
             noticed, unnoticed = noticed + bool(by), unnoticed + (not by)
-            computed = bool(by) and bench.promised[by[0]]
             by_rows += computed
             what = f'{"the rows of " if computed else ""}{by[0][0]} {by[0][1]}' if by else 'NOBODY'
             print(f'{change.file}:{change.line} {change.name}: {change.words()}: noticed by {what}', flush=True)

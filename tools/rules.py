@@ -7,12 +7,12 @@ Prints each problem as `RULE: file:line: what`, then `N passed, M failed`, which
 """
 
 import re
-import subprocess
 import sys
 from pathlib import Path
 
 import contracts
 import edits
+import kit
 import sources
 import statements
 from sources import read
@@ -41,7 +41,7 @@ def no_requires_at_the_boundary(root):
 
 
 def contracts_are_equations(root):
-    """A contract settles what is returned and what each lent memory holds at exit: an equation each, directly or through an abbreviation
+    """A contract settles what is returned and what each lent memory holds in the end: an equation each, directly or through an abbreviation
     or a record of `specs/`, and none that is said by itself."""
     declared = statements.Reader(root).declared
     return [f'{place(root, file, function.line)}: `{name}`: {weakness}'
@@ -135,62 +135,42 @@ def declared_axioms(root):
                 yield f'{place(root, file, number)}: an axiom: {line.strip()}'
 
 
-def report_of(root, name):
-    """The file with the report of a crate's proof: NAME.out, or NAME.say once rt finds the crate unchanged."""
-    for file in (root / f'target/log/{name}.out', root / f'target/log/{name}.say'):
-        if re.search(r'^logic=', read(file), re.M):
-            return file
-    return None
-
-
-def assumed(line, is_library):
-    """What a line of a report says is assumed, if anything that may not be."""
-    if line.startswith('logic=not-proved'):
-        return 'it is not proved'
-    own = re.match(r'logic=.* foreign=(\S+)', line)
-    if own:
-        return f'it declares C functions of its own: {own[1]}'
-    # The report has a line for each crate whose C functions it reached; a program may reach the kit's.
-    reached = re.match(r'axioms (\w+): (.*)', line)
-    if reached and (is_library or reached[1] not in ('io', 'libc', 'os')):
-        return f'it leans on axioms of {reached[1]}: {reached[2]}'
-    if is_library and re.match(r'logic=.* axioms=[1-9]', line):
-        return 'a library that leans on axioms'
-    # The report of a library counts no axioms of the crates below it, but names those that it read.
-    loaded = re.match(r'library (libc|os): modules loaded=[1-9]', line)
-    if is_library and loaded:
-        return f'a library that leans on {loaded[1]}, whose contracts are assumed'
-    return None
+def declared_c_functions(root):
+    for _, file, _ in sources.code_files(root):
+        code = sources.CODE_COMMENT.sub(sources.blank, read(file))
+        for found in re.finditer(r'\bextern\s*(?:"C"\s*)?\{', code):
+            yield f'{place(root, file, sources.line_at(code, found.start()))}: C functions of its own, whose contracts nothing proves'
 
 
 def no_axioms(root):
-    """Nothing is assumed: no axiom, no C function, and no library over one; a program may call the kit's."""
-    problems = list(declared_axioms(root))
-    for _, name, _ in sources.listed_crates(root):
-        report = report_of(root, name)
-        if report is None:
-            problems.append(f'target/log/{name}.out:1: no report of a proof of {name}: run rt check first')
-            continue
-        is_library = (root / f'crates/{name}/src/lib.rt').is_file()
-        for number, line in enumerate(read(report).splitlines(), 1):
-            what = assumed(line, is_library)
-            if what:
-                problems.append(f'{place(root, report, number)}: {name}: {what}')
+    """Nothing is assumed: no axiom, no C function, and no library over the kit's own. That no call for C reaches a C function is read off
+    the library's proof (tools/library.py)."""
+    problems = [*declared_axioms(root), *declared_c_functions(root)]
+    for line, name, _ in sources.listed_crates(root):
+        reached = [each for each in kit.dependencies(root, name) if each in ('io', 'libc', 'os')]
+        if reached and (root / f'crates/{name}/src/lib.rt').is_file():
+            problems.append(f'crates.txt:{line}: {name}: a library that leans on {", ".join(reached)}, whose contracts are assumed')
     return problems
 
 
 # ---- edits that must be refused
 
 def edits_name_their_facts(root):
-    """An edit that must be refused names the fact at which it has to be."""
-    return [f'crates/{crate.name}/must-fail:1: {edit.name} names no fact'
-            for crate in sources.crate_folders(root)
-            for edit in edits.edits_of(root, crate.name) if len(edit.fact.split()) != 2]
+    """An edit that must be refused can be applied, and names the fact at which it has to be."""
+    problems = []
+    for crate in sources.crate_folders(root):
+        for edit in edits.edits_of(root, crate.name):
+            try:
+                edits.edited(edit, crate)
+            except edits.BadEdit as bad:
+                problems.append(f'crates/{crate.name}/must-fail/{edit.label}.edit:1: {bad}')
+    return problems
 
 
 def exported_calls_are_attacked(root):
     """Each call for C has an edit that breaks a fact of its own proof."""
-    attacked = {part for crate in sources.crate_folders(root) for edit in edits.edits_of(root, crate.name) for part in edit.fact.split('/')}
+    attacked = {part for crate in sources.crate_folders(root) for edit in edits.edits_of(root, crate.name)
+                for part in edit.fact.partition(' ')[0].split('::')}
     return [f'{place(root, file, function.line)}: no edit breaks a fact of `{name}`'
             for file, name, function in sources.public_calls(root)
             if 'extern "C"' in function.text and function.path[-1] not in attacked]
@@ -200,14 +180,11 @@ def exported_calls_are_attacked(root):
 
 def laid_out(root):
     """Every file is in the layout of `rt fmt`."""
-    try:
-        checked = subprocess.run(['rt', 'fmt', '--check'], cwd=root, stdin=subprocess.DEVNULL,
-                                 stdout=subprocess.PIPE, stderr=subprocess.STDOUT, encoding='utf-8')
-    except OSError as error:
-        return [f'crates:1: rt fmt --check cannot be run: {error}']
+    files = [file for part in ('src/**/*.rt', 'specs/**/*.antt', 'proofs/**/*.antt') for file in sorted(root.glob(f'crates/*/{part}'))]
+    checked = kit.rattle('fmt', ['--check', *files])
     if checked.returncode == 0:
         return []
-    said = checked.stdout.replace(f'{root}/', '').strip() or 'crates:1: rt fmt --check failed'
+    said = checked.stdout.replace(f'{root}/', '').strip() or 'crates:1: rattle fmt --check failed'
     return [line.replace(' is not in the layout', ':1: is not in the layout') for line in said.splitlines()]
 
 

@@ -20,7 +20,7 @@ ITEM = re.compile(
     + r'|(?P<brace>[{}])',
     re.S)
 CLAUSE_OR_BODY = re.compile(
-    CODE_SKIPPED + r'|\b(?P<clause>ghost|requires|ensures)\b\s*\w*\s*\{|(?P<body>\{)', re.S)
+    CODE_SKIPPED + r'|\b(?P<clause>ghost|requires|ensures)\b\*?\s*\w*\s*:?\s*\{|(?P<body>\{)', re.S)
 CODE_COMMENT = re.compile(r'//[^\n]*|/\*.*?\*/', re.S)
 
 USE = re.compile(r'^(?:pub |ghost )?use\s+([^\s;{]+?)(?:\.\{([^}]*)\}|\s+as\s+(\S+?))?;?[ \t]*$', re.M)
@@ -49,9 +49,9 @@ def listed_crates(root):
     """Yields (line, name, the line above) of each crate in crates.txt."""
     above = ''
     for number, line in enumerate(read(root / 'crates.txt').splitlines(), 1):
-        name = line.split('#')[0].split(':')[0].strip()
+        name = line.split('#')[0].split(':')[0].split()
         if name:
-            yield number, name, above
+            yield number, name[0], above
         above = line
 
 
@@ -77,7 +77,7 @@ def imports(text):
         for item in items.split(','):
             name, _, renamed = (part.strip() for part in item.partition(' as '))
             if name:
-                brought[(renamed or name).strip('_')] = f'{module}.{name}'
+                brought[(renamed or name).strip('◌')] = f'{module}.{name}'
     return brought
 
 
@@ -117,8 +117,9 @@ def clauses_and_body(text, position):
             clauses.append((found['clause'], without_comments(text[found.end():position - 1]).strip()))
 
 
-def code_items(text):
-    """Yields ('fn', path, span, clauses) of each `pub fn` and ('type', path, span, []) of each `pub` struct and enum."""
+def every_item(text):
+    """Yields (kind, whether it is `pub`, path, (start, body, end), clauses) of each function, struct and enum, in order; kind is 'fn' or
+    'type'. What is declared inside a function is passed over."""
     around, position = [], 0
     while True:
         found = ITEM.search(text, position)
@@ -127,14 +128,12 @@ def code_items(text):
         position = found.end()
         if found['fn']:
             clauses, body, position = clauses_and_body(text, position)
-            if found['pub']:
-                yield 'fn', around + [found['fn']], (found.start(), body), clauses
+            yield 'fn', bool(found['pub']), around + [found['fn']], (found.start(), body, position), clauses
         elif found['type']:
             opening = re.compile(r'[{;]').search(text, position)
             if opening:
                 position = closing(text, opening.start(), CODE_BRACES) if opening.group() == '{' else opening.end()
-            if found['shown']:
-                yield 'type', around + [found['type']], (found.start(), position), []
+            yield 'type', bool(found['shown']), around + [found['type']], (found.start(), position, position), []
         elif found['impl'] or found['mod']:
             around.append(found['impl'] or found['mod'])
         elif found['brace'] == '{':
@@ -143,11 +142,19 @@ def code_items(text):
             around.pop()
 
 
+def function_at(text, line):
+    """The path of the function of a file of code in which a line stands; empty where it stands in none."""
+    for kind, _, path, (start, _, end), _ in every_item(text):
+        if kind == 'fn' and line_at(text, start) <= line <= line_at(text, end):
+            return path
+    return []
+
+
 def public_items(text, kind):
     """The `pub` functions or types of a file of code."""
-    for found, path, (start, end), clauses in code_items(text):
-        if found == kind:
-            yield Function(line_at(text, start), path, CODE_COMMENT.sub(' ', text[start:end]), clauses)
+    for found, is_pub, path, (start, body, _), clauses in every_item(text):
+        if found == kind and is_pub:
+            yield Function(line_at(text, start), path, CODE_COMMENT.sub(' ', text[start:body]), clauses)
 
 
 def code_files(root):

@@ -32,9 +32,9 @@ def hashed(text, brought):
 def file_of_module(origin):
     """The file, below crates/, and the name that an imported name leads to, if it is a declaration of this repository."""
     head, *path = origin.split('.')
-    if not head.startswith('Rattle·') or len(path) < 3 or path[1] == 'declared':
+    if head != 'Rattle' or len(path) < 4 or path[2] == 'declared':
         return None
-    crate = head.split('·')[1]
+    crate, *path = path
     return f'{crate}/{"/".join(path[:-1])}.antt', path[-1]
 
 

@@ -10,6 +10,7 @@ notices here is held by the functions' proofs alone.
 import re
 import shutil
 import sys
+import tempfile
 from pathlib import Path
 
 import kit
@@ -17,10 +18,12 @@ import sources
 
 # The crate above all others, which reaches every library.
 TOP_CRATE = 'demands'
+# The files that prove a function, in a folder of its own.
+PROOFS_OF_A_FUNCTION = ('Proof.antt', 'Answers.antt', 'Invariants.antt')
 
 FUNCTION = re.compile(
     sources.CODE_SKIPPED
-    + r'|(?P<head>(?:#\[no_mangle\]\s*)?(?:\bpub(?:\([a-z]+\))?\s+)?(?:extern\s+"C"\s+)?\bfn\s+\w+)'
+    + r'|(?P<head>(?:#\[unsafe\(no_mangle\)\]\s*)?(?:\bpub(?:\([a-z]+\))?\s+)?(?:extern\s+"C"\s+)?\bfn\s+\w+)'
     + r'|(?P<brace>[{}])',
     re.S)
 ERROR = re.compile(r'^(?P<file>\S+?):\d+:\d+: error: `(?P<name>[^`]+)`')
@@ -58,21 +61,18 @@ def lay_out(root, folder):
             if file.suffix == '.rt' and crate / 'src' in file.parents:
                 there.parent.mkdir(parents=True, exist_ok=True)
                 there.write_text(types_alone(sources.read(file)), encoding='utf-8')
-            elif file.suffix == '.antt' and file.name != 'Proof.antt':
+            elif file.suffix == '.antt' and file.name not in PROOFS_OF_A_FUNCTION:
                 there.parent.mkdir(parents=True, exist_ok=True)
                 shutil.copy(file, there)
 
 
 def check(folder, kept):
     """Checks a theory over what the checker has kept of it; returns what it says."""
-    names = libraries_in(folder)
-    words = ['--crate-name', TOP_CRATE, folder / 'crates' / TOP_CRATE / 'src/lib.rt', '--extern', f'std={kit.own()}/rlib/std.rlib']
-    for name in names:
+    words = ['--crate-name', TOP_CRATE, folder / 'crates' / TOP_CRATE / 'src/lib.rt', *kit.kit_words([])]
+    for name in libraries_in(folder):
         if name != TOP_CRATE:
             words += ['--lib', f'{name}={folder}/crates/{name}/src/lib.rt']
-    words += ['-L', f'dependency={kit.own()}/rlib', '--antt-project', kit.home() / 'logic/antt-project.json', *kit.built_logic(),
-              '--incremental', kept]
-    return kit.rattle('check', map(str, words)).stdout
+    return kit.rattle('check', [*words, *kit.logic(), '--incremental', kept]).stdout
 
 
 def libraries_in(folder):
@@ -88,9 +88,11 @@ def rejected(said, folder):
 def main():
     """Checks the theory of this repository by itself, over what was kept of it, and shows what was not admitted."""
     root = Path(__file__).resolve().parent.parent
-    tree = root / 'target/theory/tree'
-    lay_out(root, tree)
-    said = check(tree, root / 'target/theory/kept')
+    with tempfile.TemporaryDirectory() as folder:
+        # outside the checkout, where `rt ci` takes no such file
+        tree = Path(folder).resolve() / 'tree'
+        lay_out(root, tree)
+        said = check(tree, root / 'target/theory')
     print('\n'.join(line for line in said.replace(f'{tree}/', '').splitlines()
                     if ': error: ' in line or line.startswith(('logic=', 'note: ')) or 'hole' in line))
     return 0 if 'logic=proved' in said else 1

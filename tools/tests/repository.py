@@ -37,7 +37,7 @@ class Copy(Repository):
     def setUp(self):
         super().setUp()
         shutil.rmtree(self.root)
-        shutil.copytree(TOP, self.root, ignore=shutil.ignore_patterns('target', '.git', '__pycache__'))
+        shutil.copytree(TOP, self.root, ignore=shutil.ignore_patterns('target', 'out', '.git', '__pycache__'))
 
     def replace(self, path, old, new):
         """Makes an attack's edit; what is to be changed stands there once."""

@@ -42,36 +42,36 @@ class Attacks(Copy):
         self.assertEqual(self.lost(), [])
 
     def test_a_theorem_deleted_together_with_its_row(self):
-        theorem = re.compile(r'^pub done-malformed :.*?(?=^\S[^\n]* :|\Z)', re.S | re.M)
+        theorem = re.compile(r'^pub done_malformed :.*?(?=^\S[^\n]* :|\Z)', re.S | re.M)
         path = 'crates/command/proofs/Words.antt'
         self.assertEqual(len(theorem.findall(self.read(path))), 1)
         self.write(path, theorem.sub('', self.read(path)))
-        rows = [line for line in self.read(rules.PROMISES).splitlines(keepends=True) if '`done-malformed`' not in line]
+        rows = [line for line in self.read(rules.PROMISES).splitlines(keepends=True) if '`done_malformed`' not in line]
         self.write(rules.PROMISES, ''.join(rows))
         self.assert_passes(rules.promises_complete)
         [problem] = rules.statements_pinned(self.root)
-        self.assertIn('pinned and no longer so: command theorem proofs/Words.antt done-malformed', problem)
+        self.assertIn('pinned and no longer so: command theorem proofs/Words.antt done_malformed', problem)
         self.pin_again()
         self.assertRegex(' '.join(self.lost()), r'^theorems: \d+, and at least \d+ before$')
 
     def test_a_theorem_weakened_until_it_says_nothing(self):
         path = 'crates/command/proofs/Words.antt'
-        [statement] = re.findall(r'^pub done-malformed : .*$', self.read(path), re.M)
-        self.replace(path, statement, 'pub done-malformed : (w : ℕ) → w ≡ w')
+        [statement] = re.findall(r'^pub done_malformed : .*$', self.read(path), re.M)
+        self.replace(path, statement, 'pub done_malformed : (w : ℕ) → w ≡ w')
         gone, new = rules.statements_pinned(self.root)
-        self.assertIn('command theorem proofs/Words.antt done-malformed', gone)
-        self.assertIn('command theorem proofs/Words.antt done-malformed', new)
+        self.assertIn('command theorem proofs/Words.antt done_malformed', gone)
+        self.assertIn('command theorem proofs/Words.antt done_malformed', new)
 
     def test_a_contract_that_says_nothing(self):
         path = 'crates/sitankulo/src/inspecting.rt'
-        self.replace(path, 'r ≡ inspectAnswer (now (words .entry)) (now (fifo .entry)) phase', 'r ≡ r')
+        self.replace(path, 'result ≡ inspect_answer words.now fifo.now phase', 'result ≡ result')
         [problem] = rules.contracts_are_equations(self.root)
-        self.assertRegex(problem, r'sitankulo_inspect`: `r` is said by what is left itself: `r`$')
+        self.assertRegex(problem, r'sitankulo_inspect`: `result` is said by what is left itself: `result`$')
         self.assertEqual(len(rules.statements_pinned(self.root)), 2)
 
     def test_a_definition_that_says_nothing(self):
-        self.replace('crates/command/specs/Word.antt', 'doneOf w = ', 'doneOf w = false -- ')
-        self.assertIn('command definition specs/Word.antt doneOf', rules.statements_pinned(self.root)[0])
+        self.replace('crates/command/specs/Word.antt', 'done_of w = ', 'done_of w = false -- ')
+        self.assertIn('command definition specs/Word.antt done_of', rules.statements_pinned(self.root)[0])
 
     def test_a_host_project_removed(self):
         for file in (self.root / 'host/differential').rglob('Cargo.toml'):
@@ -85,7 +85,14 @@ class Attacks(Copy):
         self.assertEqual(self.carried_out('host/oracle'), 1)
 
     def test_edits_removed(self):
-        next((self.root / 'crates/sitankulo/must-fail').rglob('*.edit')).unlink()
+        next((self.root / 'crates/sitankulo/must-fail').glob('*.edit')).unlink()
+        self.assertRegex(' '.join(self.lost()), r'^edits refused: \d+, and at least \d+ before$')
+
+    def test_an_edit_hidden_from_rt(self):
+        folder = self.root / 'crates/sitankulo/must-fail'
+        (folder / 'more').mkdir()
+        edit = next(folder.glob('*.edit'))
+        edit.rename(folder / 'more' / edit.name)
         self.assertRegex(' '.join(self.lost()), r'^edits refused: \d+, and at least \d+ before$')
 
 

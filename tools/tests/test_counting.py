@@ -23,12 +23,20 @@ class Counting(unittest.TestCase):
         self.assert_counts(counting.last_line([]), 0, 0)
 
     def test_proofs_edits_and_programs(self):
-        lines = ['rt: chunks proved (3 s)', 'rt: show proved (9 s)', 'rt: old proved (unchanged since it was last proved)',
-                 'rt: must-fail chunks/one: refused, as it must be (first at proofs/cut/Proof.antt:1:2; 3 s)',
-                 'rt: must-fail chunks/two: NOT REFUSED: the crate is still proved with this edit (3 s)',
-                 "rt: show ran as nobody, and wrote what its file 'stdout' has (0 s)", 'rt: FAILED: chunks/two', '3 passed, 1 failed']
-        told = {'crates proved': 2, 'edits refused by rt ci': 1, 'programs run': 1}
+        lines = ['rt: chunks proved', 'rt: chunks: its tests are proved', 'rt: show proved', 'rt: over NOT PROVED',
+                 'rt: old is kept: an earlier run on this machine proved the same files over the same libraries',
+                 'rt: must-fail chunks/one.edit: refused, as it must be: ./proofs/cut/Answers.antt:1:2: error: `returns`: no proof of that',
+                 'rt: must-fail chunks/two.edit: NOT REFUSED: the crate is still proved with this edit',
+                 "rt: show ran, and wrote what its file stdout has", "rt: show ran (built by Rattle's own compiler), and wrote what its file stdout has",
+                 'rt: FAILED: chunks/two.edit', '3 passed, 1 failed']
+        told = {'crates proved': 3, 'edits refused by rt ci': 1, 'programs run': 1}
         self.assert_counts(counting.of_proofs(lines), 4, 1, **told)
+
+    def test_edits_that_rt_calls_bad_have_failed(self):
+        well = 'rt: ok; handles allowed: none; must-fail edits: 120 refused, 2 of them only by a limit; every proof and must-fail edit was done in this run'
+        bad = well.replace('a limit;', 'a limit, 12 bad;')
+        self.assert_counts(counting.of_proofs([well, '140 passed, 0 failed']), 140, 0, crates_proved=0, edits_refused_by_rt_ci=0, programs_run=0)
+        self.assert_counts(counting.of_proofs([bad, '140 passed, 0 failed']), 140, 12, crates_proved=0, edits_refused_by_rt_ci=0, programs_run=0)
 
     def test_a_tool_test_that_fails_or_is_skipped_has_not_passed(self):
         self.assert_counts(counting.of_unittest(['Ran 15 tests in 1.2s', '', 'OK']), 15, 0, tests_of_the_tools=15)
@@ -103,6 +111,11 @@ class Parts(Repository):
         part = gate.Part('a part', [str(self.root / 'not-there')], counting.last_line, self.root)
         gate.carry_out_all([part])
         self.assertEqual((part.result.passed, part.result.failed), (0, 1))
+
+    def test_what_a_part_says_is_kept_for_those_that_read_it(self):
+        part = self.part('a part', 'print("one"); print("1 passed, 0 failed")', kept=self.root / 'target/said.log')
+        gate.carry_out_all([part])
+        self.assertEqual(self.read('target/said.log'), 'one\n1 passed, 0 failed\n')
 
     def test_a_part_waits_for_those_that_it_needs(self):
         first = self.part('first', 'import time; time.sleep(0.3); open("made", "w"); print("1 passed, 0 failed")')

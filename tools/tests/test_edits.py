@@ -1,4 +1,4 @@
-"""The runner of the edits that must be refused: which edits it takes, and what it makes of a check."""
+"""The edits that must be refused: which are taken, and what is made of what `rt` says of them."""
 
 import unittest
 
@@ -6,65 +6,111 @@ from repository import Repository
 
 import edits
 
-NOT_PROVED = '''\
-/copy/proofs/cut/Proof.antt:29:15: error: `returns-3`: `search`: no proof of that
-/copy/proofs/cut/Proof.antt:33:76: error: `cut-spec`: `returns-3` was not admitted
-fn chunks::cut: not proved
-logic=not-proved
-'''
-NO_PROOF = '''\
-/copy/proofs/caller/Proof.antt:15:18: error: `caller-spec`: `close` was not admitted (it has holes), so this cannot be checked
-fn chunks::cut: no proof: expected `cut-spec` in /copy/proofs/cut/Proof.antt; `search` does not close `returns-3`
-logic=not-proved
+CODE = '''\
+// how much is cut
+pub fn cut() -> u8
+    ensures { result ≡ 31 }
+{
+    31
+}
+
+mod inner {
+    impl Cursor {
+        fn next(self) -> u8 {
+            7
+        }
+    }
+}
 '''
 
 
 class Edits(Repository):
     def setUp(self):
         super().setUp()
-        self.write('crates/chunks/src/lib.rt', 'pub fn cut() -> u8 {\n    31\n}\n')
+        self.write('crates.txt', 'chunks:\n')
+        self.write('crates/chunks/src/lib.rt', CODE)
+        self.write('crates/chunks/src/far/away.rt', CODE)
+        self.folder = self.root / 'crates/chunks'
 
     def edit(self, text):
-        self.write('crates/chunks/must-fail/more/one.edit', text)
+        self.write('crates/chunks/must-fail/one.edit', text)
         return edits.edits_of(self.root, 'chunks')[0]
 
     def assert_bad(self, words, text):
         with self.assertRaisesRegex(edits.BadEdit, words):
-            edits.apply(self.edit(text), self.root / 'crates/chunks')
+            edits.edited(self.edit(text), self.folder)
 
     def test_an_edit_is_applied(self):
-        edit = self.edit('a comment\nfile: src/lib.rt\nold: 31\nnew: 32\nfact: proofs/cut/Proof.antt returns\n')
-        edits.apply(edit, self.root / 'crates/chunks')
-        self.assertEqual((edit.name, edit.fact), ('chunks/one', 'proofs/cut/Proof.antt returns'))
-        self.assertEqual(self.read('crates/chunks/src/lib.rt'), 'pub fn cut() -> u8 {\n    32\n}\n')
+        edit = self.edit('a comment\nfile: src/lib.rt\nold:     31\nnew:     32\nold:     32\nnew:     33\nfact: chunks::cut returns\n')
+        self.assertEqual((edit.name, edit.fact), ('chunks/one', 'chunks::cut returns'))
+        self.assertEqual(edits.edited(edit, self.folder), {'src/lib.rt': CODE.replace('    31', '    33')})
 
     def test_an_edit_that_does_not_apply_is_bad(self):
-        fact = 'fact: proofs/cut/Proof.antt returns\n'
+        fact = 'fact: chunks::cut returns\n'
         self.assert_bad('it changes nothing', fact)
-        self.assert_bad('it names no fact', 'file: src/lib.rt\nold: 31\nnew: 32\n')
+        self.assert_bad('it names no fact', 'file: src/lib.rt\nold: ≡ 31\nnew: ≡ 32\n')
         self.assert_bad('stands 0 times in src/lib.rt', 'file: src/lib.rt\nold: 33\nnew: 32\n' + fact)
-        self.assert_bad('stands 3 times in src/lib.rt', 'file: src/lib.rt\nold: u\nnew: v\n' + fact)
+        self.assert_bad('stands 2 times in src/lib.rt', 'file: src/lib.rt\nold: 31\nnew: 32\n' + fact)
         self.assert_bad("is no file of the crate's", 'file: src/other.rt\nold: 31\nnew: 32\n' + fact)
-        self.assert_bad("is no file of the crate's", 'file: proofs/cut/Proof.antt\nold: 31\nnew: 32\n' + fact)
+        self.assert_bad("is no file of the crate's", 'file: proofs/cut/Answers.antt\nold: 31\nnew: 32\n' + fact)
 
-    def judged(self, status, said, fact='proofs/cut/Proof.antt returns-3'):
-        return edits.judged(edits.Edit('chunks', 'one', [], fact), status, said, '/copy')
+    # ---- what rt says
+
+    def fact(self, line):
+        return edits.fact_of('chunks', line, self.folder)
+
+    def test_a_goal_with_an_answer(self):
+        said = 'error: `returns-2`: `search`: no proof of that'
+        for file in ('Answers', 'Invariants', 'Proof'):
+            self.assertEqual(self.fact(f'./proofs/cut/{file}.antt:29:15: {said}'), ('chunks::cut returns-2', False))
+        self.assertEqual(self.fact(f'./proofs/far/away/cut/Answers.antt:29:15: {said}'), ('chunks::far::away::cut returns-2', False))
+
+    def test_a_goal_without_an_answer(self):
+        said = 'it is not proved that what the function ensures holds when it returns (`returns-then-a`); the facts known there'
+        self.assertEqual(self.fact(f'note: src/lib.rt:5:5: {said}'), ('chunks::cut returns-then-a', False))
+        self.assertEqual(self.fact(f'note: src/lib.rt:12:9: {said}'), ('chunks::inner::Cursor::next returns-then-a', False))
+        self.assertEqual(self.fact(f'note: src/far/away.rt:6:1: {said}'), ('chunks::far::away::cut returns-then-a', False))
+
+    def test_a_goal_whose_name_is_cut_short(self):
+        line = f'note: src/lib.rt:5:5: it is not proved that {"much " * 19}holds (`returns-then-a-long-name'[:160]
+        fact, is_cut = self.fact(line)
+        self.assertTrue(is_cut and 'chunks::cut returns-then-a-long-name'.startswith(fact))
+        what = f'refused, as it must be: {line}'
+        self.assertTrue(edits.judged(edits.Edit('chunks', 'one', [], 'chunks::cut returns-then-a-long-name'), what, self.folder)[0])
+        self.assertFalse(edits.judged(edits.Edit('chunks', 'one', [], 'chunks::cut returns-else'), what, self.folder)[0])
+
+    def test_a_declaration(self):
+        self.assertEqual(self.fact('./proofs/Laws.antt:3:1: error: `cut_law`: no proof of that'), ('proofs/Laws.antt cut_law', False))
+        self.assertEqual(self.fact('note: this is advice'), ('', False))
+
+    def judged(self, what, fact='chunks::cut returns'):
+        return edits.judged(edits.Edit('chunks', 'one', [], fact), what, self.folder)
 
     def test_an_edit_is_refused_at_its_fact(self):
-        self.assertEqual(self.judged(1, NOT_PROVED), (True, 'refused at proofs/cut/Proof.antt returns-3'))
-        self.assertEqual(self.judged(1, NO_PROOF), (True, 'refused at proofs/cut/Proof.antt returns-3'))
+        said = './proofs/cut/Answers.antt:9:1: error: `returns`: no proof of that'
+        self.assertEqual(self.judged(f'refused, as it must be: {said}'), (True, 'refused at chunks::cut returns'))
+        limit = '(only by a limit of the prover, which gave no verdict, so this says less of the contract: choose a change that it refuses sooner)'
+        self.assertEqual(self.judged(f'refused, as it must be {limit}: {said}'), (True, 'refused at chunks::cut returns'))
 
     def test_an_edit_that_is_refused_elsewhere_has_failed(self):
-        well, words = self.judged(1, NOT_PROVED, 'proofs/cut/Proof.antt returns')
-        self.assertFalse(well)
-        self.assertEqual(words, 'REFUSED ELSEWHERE: at proofs/cut/Proof.antt returns-3, and its fact is proofs/cut/Proof.antt returns')
+        said = 'refused, as it must be: ./proofs/cut/Answers.antt:9:1: error: `returns-2`: no proof of that'
+        self.assertEqual(self.judged(said), (False, 'REFUSED ELSEWHERE: at chunks::cut returns-2, and its fact is chunks::cut returns'))
+        self.assertEqual(self.judged('refused, as it must be'), (False, 'refused, as it must be'))
+
+    def test_an_edit_that_is_refused_for_a_missing_name_has_failed(self):
+        why = '(only because a proof file names what the edit took away, so this says little of the contract: change a value and keep the names)'
+        self.assertFalse(self.judged(f'refused, as it must be {why}: ./proofs/cut/Answers.antt:9:1: error: `returns`: `a` is not in scope')[0])
 
     def test_an_edit_that_is_not_refused_has_failed(self):
-        self.assertEqual(self.judged(0, 'logic=proved'), (False, 'NOT REFUSED: the crate is still proved with this edit'))
+        for said in ('NOT REFUSED: the crate is still proved with this edit', 'BAD EDIT: it did not reach the prover', 'NOT TRIED: its check was killed'):
+            self.assertEqual(self.judged(said), (False, said))
 
-    def test_an_edit_that_does_not_compile_has_failed(self):
-        self.assertEqual(self.judged(1, 'error: no such name'), (False, 'BAD EDIT: it did not reach the prover:\nerror: no such name'))
-        self.assertFalse(self.judged(2, NOT_PROVED)[0])
+    def test_all_are_judged_by_their_lines(self):
+        self.write('crates/chunks/must-fail/one.edit', 'file: src/lib.rt\nold:     31\nnew:     32\nfact: chunks::cut returns\n')
+        self.write('crates/chunks/must-fail/two.edit', 'file: src/lib.rt\nold:     7\nnew:     8\nfact: chunks::cut returns\n')
+        lines = ['rt: must-fail chunks/one.edit: refused, as it must be: ./proofs/cut/Answers.antt:9:1: error: `returns`: no proof of that']
+        self.assertEqual(list(edits.judge_all(self.root, edits.wanted(self.root, []), lines)),
+                         [(True, 'chunks/one: refused at chunks::cut returns'), (False, 'chunks/two: NOT TRIED')])
 
 
 if __name__ == '__main__':

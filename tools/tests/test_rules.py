@@ -9,8 +9,6 @@ import rules
 import sources
 import statements
 
-PROVED = 'logic=proved functions=2 sum=064da1ca440f63e7 native=nat,char,string\nrt: chunks proved (3 s)\n'
-
 
 class EveryPubFnHasEnsures(Repository):
     rule = staticmethod(rules.every_pub_fn_has_ensures)
@@ -22,11 +20,11 @@ pub fn plain(left: u64) -> u64 {
     left
 }
 
-#[no_mangle]
+#[unsafe(no_mangle)]
 pub extern "C" fn exported(
     out: &mut [u8; 4],
 ) -> u32
-    requires { ⌜ 1 ≤ 2 ⌝ } // ensures { nothing }
+    requires { 1 ≤ 2 } // ensures { nothing }
 {
     let ensures_nothing = b'{';
     0
@@ -55,7 +53,7 @@ mod inner {
 
     def test_passes_clauses_over_several_lines(self):
         self.write('crates/chunks/src/lib.rt', '''\
-ghost use lib.Odd.{_//_, _≡_};
+ghost use lib.Odd.{◌//◌, ◌≡◌};
 
 fn private() {}
 
@@ -66,15 +64,14 @@ pub struct Cursor<'a> {
 }
 
 impl<'a> Cursor<'a> {
-    #[no_mangle]
+    #[unsafe(no_mangle)]
     pub extern "C" fn next(
         self, // {
         out: [u8; 4],
     ) -> [u8; 4]
-        ghost { ℕ }
-        ensures bounded { λ g r. do
-          n ← ⟦out.len()⟧ .entry
-          ⌜ r ≡ record { at = n // 2 } ⌝ -- } a comment of antt
+        ghost n: { ℕ }
+        ensures bounded {
+          result ≡ record { at = n // 2 } -- } a comment of antt
         }
     {
         if out.len() > 2 { out } else { out }
@@ -83,7 +80,7 @@ impl<'a> Cursor<'a> {
 
 pub fn last() -> u8
     // what comes after { a comment
-    ensures { λ r. ⌜ r ≡ 1 ⌝ }
+    ensures* { ⌜ result ≡ 1 ⌝ }
 {
     1
 }
@@ -100,8 +97,8 @@ class NoRequiresAtTheBoundary(Repository):
         self.write('crates/chunks/src/lib.rt', '''\
 pub fn cut(left: u64) -> u64
     requires small {
-      ⌜ left ≤ 8 ⌝ }
-    ensures { λ r. ⌜ r ≡ left ⌝ }
+      left ≤ 8 }
+    ensures { result ≡ left }
 {
     left
 }
@@ -112,13 +109,13 @@ pub fn cut(left: u64) -> u64
         self.write('crates/chunks/src/lib.rt', '''\
 // requires { nothing }
 pub fn cut(left: u64) -> u64
-    ensures { λ r. ⌜ r ≡ left ⌝ }
+    ensures { result ≡ left }
 {
     within(left)
 }
 
 fn within(left: u64) -> u64
-    requires { ⌜ left ≤ 8 ⌝ }
+    requires { left ≤ 8 }
 {
     left
 }
@@ -131,10 +128,10 @@ class ContractsAreEquations(Repository):
 
     def contract(self, head, *clauses):
         self.write('crates/chunks/src/lib.rt', f"""\
-ghost use Rattle·chunks·specs.specs.Left.{{Left, Laid, Vague}};
+ghost use Rattle.chunks.specs.Left.{{Left, Laid, Vague}};
 
 pub fn cut{head}
-{chr(10).join(f"    ensures {{ λ r. ⌜ {clause} ⌝ }}" for clause in clauses)}
+{chr(10).join(f"    ensures n{number} {{ {clause} }}" for number, clause in enumerate(clauses))}
 {{
     0
 }}
@@ -145,7 +142,7 @@ Left n r old new =
     (r ≡ n) × (new ≡ laid n old)
 
 pub record Laid (r : Run) (report : ℕ) (old new : List ℕ) : Type 0 where
-  pub reported : report ≡ reportOf r
+  pub reported : report ≡ report_of r
   pub memory :
       new
       ≡ laid r old
@@ -158,41 +155,41 @@ pub record Vague (report : ℕ) : Type 0 where
         self.assert_reports(self.rule, *(f'crates/chunks/src/lib.rt:3: `chunks::cut`: {each}' for each in weaknesses))
 
     def test_reports_what_is_said_by_itself(self):
-        self.contract('(left: u64) -> u64', 'r ≡ r')
-        self.assert_weak('`r` is said by what is left itself: `r`')
-        self.contract('(out: &mut [u8]) -> u64', 'r ≡ 1', 'now (out .exit) ≡ now (out .exit)')
-        self.assert_weak('`now(out .exit)` is said by what is left itself: `now(out .exit)`')
+        self.contract('(left: u64) -> u64', 'result ≡ result')
+        self.assert_weak('`result` is said by what is left itself: `result`')
+        self.contract('(out: &mut [u8]) -> u64', 'result ≡ 1', 'out.new ≡ out.new')
+        self.assert_weak('`out.new` is said by what is left itself: `out.new`')
 
     def test_reports_what_is_not_said(self):
         self.contract('(left: u64, out: &mut [u8]) -> u64', 'left ≡ left')
-        self.assert_weak('no equation for `r`', 'no equation for `now(out .exit)`',
-                         'an equation for `left`, which is neither the result nor lent memory at exit')
+        self.assert_weak('no equation for `result`', 'no equation for `out.new`',
+                         'an equation for `left`, which is neither the result nor what lent memory holds in the end')
 
     def test_reports_what_is_no_equation(self):
-        self.contract('(left: u64) -> u64', '(r ≡ left) × (r ≤ 8)')
-        self.assert_weak('`r ≤ 8` is no equation')
-        self.contract('(left: u64) -> u64', 'Vague r')
-        self.assert_weak('`r ≤ 8` is no equation', 'no equation for `r`')
-        self.contract('(left: u64) -> u64', '(left ≡ 1 → r ≡ left)')
-        self.assert_weak('`left ≡ 1 → r ≡ left` is no equation', 'no equation for `r`')
+        self.contract('(left: u64) -> u64', '(result ≡ left) × (result ≤ 8)')
+        self.assert_weak('`result ≤ 8` is no equation')
+        self.contract('(left: u64) -> u64', 'Vague result')
+        self.assert_weak('`result ≤ 8` is no equation', 'no equation for `result`')
+        self.contract('(left: u64) -> u64', '(left ≡ 1 → result ≡ left)')
+        self.assert_weak('`left ≡ 1 → result ≡ left` is no equation', 'no equation for `result`')
 
     def test_reports_a_memory_that_an_abbreviation_leaves_out(self):
-        self.contract('(out: &mut [u8], more: &mut [u8]) -> u64', 'Left 1 r (now (out .entry)) (now (out .exit))')
-        self.assert_weak('no equation for `now(more .exit)`')
-        self.contract('(out: &mut [u8]) -> u64', 'Left 1 r (now (out .entry)) (now (out .entry))')
-        self.assert_weak('no equation for `now(out .exit)`',
-                         'an equation for `now(out .entry)`, which is neither the result nor lent memory at exit')
+        self.contract('(out: &mut [u8], more: &mut [u8]) -> u64', 'Left 1 result out.old (out.new)')
+        self.assert_weak('no equation for `more.new`')
+        self.contract('(out: &mut [u8]) -> u64', 'Left 1 result out.old out.old')
+        self.assert_weak('no equation for `out.new`',
+                         'an equation for `out.old`, which is neither the result nor what lent memory holds in the end')
 
     def test_passes_equations_in_each_form(self):
-        self.contract('(left: u64) -> u64', 'r ≡ pieceOf left')
+        self.contract('(left: u64) -> u64', 'result ≡ piece_of left')
         self.assert_passes(self.rule)
-        self.contract('(out: &mut [u8])', 'now (out .exit) ≡ cond (leb 8 (length (now (out .entry)))) [] (now (out .entry))')
+        self.contract('(out: &mut [u8])', 'out.new ≡ cond (leb 8 (length out.old)) [] out.old')
         self.assert_passes(self.rule)
-        self.contract("(out: &'a mut [u8]) -> u64", 'Left (two 1) r (now (out .entry)) (now (out .exit))')
+        self.contract("(out: &'a mut [u8]) -> u64", 'Left (two 1) result out.old (out.new)')
         self.assert_passes(self.rule)
-        self.contract('(out: &mut [u8]) -> u64', '(r ≡ 1) × (now (out .exit) ≡ cond (eqb r 1) [] (now (out .entry)))')
+        self.contract('(out: &mut [u8]) -> u64', '(result ≡ 1) × (out.new ≡ cond (eqb result 1) [] out.old)')
         self.assert_passes(self.rule)
-        self.contract('(out: &mut [u8]) -> u64', 'Laid (runOf 1) r (now (out .entry)) (now (out .exit))')
+        self.contract('(out: &mut [u8]) -> u64', 'Laid (run_of 1) result out.old (out.new)')
         self.assert_passes(self.rule)
 
 
@@ -202,29 +199,29 @@ class ContractsAsPromised(Repository):
     def setUp(self):
         super().setUp()
         self.write('crates/chunks/src/lib.rt', """\
-ghost use Rattle·chunks·specs.specs.Pieces.{pieceOf};
+ghost use Rattle.chunks.specs.Pieces.{piece_of};
 
 pub fn cut(left: u64) -> u64
-    ensures { λ r. ⌜ r ≡ pieceOf left ⌝ }
+    ensures { result ≡ piece_of left }
 {
     left
 }
 """)
-        self.write('crates/chunks/specs/Pieces.antt', 'unfoldable pub pieceOf : ℕ → ℕ\npieceOf n = n\n\nabbrev pub countOf : ℕ\ncountOf = 1\n')
+        self.write('crates/chunks/specs/Pieces.antt', 'unfoldable pub piece_of : ℕ → ℕ\npiece_of n = n\n\nabbrev pub count_of : ℕ\ncount_of = 1\n')
 
     def test_reports_a_contract_that_speaks_of_something_else(self):
-        self.write('docs/PROMISES.md', '| `chunks::cut` | `countOf`, chunks/specs/Pieces.antt | how many |\n')
-        self.assert_reports(self.rule, 'crates/chunks/src/lib.rt:3: `chunks::cut` does not speak of `countOf`, as docs/PROMISES.md has it')
+        self.write('docs/PROMISES.md', '| `chunks::cut` | `count_of`, chunks/specs/Pieces.antt | how many |\n')
+        self.assert_reports(self.rule, 'crates/chunks/src/lib.rt:3: `chunks::cut` does not speak of `count_of`, as docs/PROMISES.md has it')
 
     def test_reports_a_row_without_its_definition(self):
         self.write('docs/PROMISES.md', '| `chunks::cut` | what is next | how many |\n')
         self.assert_reports(self.rule, 'docs/PROMISES.md:1: `chunks::cut` names no definition with its file')
-        self.write('docs/PROMISES.md', '| `chunks::cut` | `pieceOf`, chunks/specs/Other.antt | how many |\n')
+        self.write('docs/PROMISES.md', '| `chunks::cut` | `piece_of`, chunks/specs/Other.antt | how many |\n')
         self.assert_reports(self.rule, 'docs/PROMISES.md:1: `chunks::cut` names no definition with its file',
-                            'docs/PROMISES.md:1: `pieceOf` is not to be found in chunks/specs/Other.antt')
+                            'docs/PROMISES.md:1: `piece_of` is not to be found in chunks/specs/Other.antt')
 
     def test_passes_a_row_that_names_it(self):
-        self.write('docs/PROMISES.md', '| `chunks::cut` | `pieceOf`, chunks/specs/Pieces.antt | how many |\n')
+        self.write('docs/PROMISES.md', '| `chunks::cut` | `piece_of`, chunks/specs/Pieces.antt | how many |\n')
         self.assert_passes(self.rule)
 
 
@@ -233,21 +230,21 @@ class StatementsPinned(Repository):
 
     def setUp(self):
         super().setUp()
-        self.write('crates/chunks/specs/Pieces.antt', 'abbrev pub pieceOf : ℕ → ℕ\npieceOf n = n\n')
+        self.write('crates/chunks/specs/Pieces.antt', 'abbrev pub piece_of : ℕ → ℕ\npiece_of n = n\n')
         self.write('docs/STATEMENTS.txt', statements.written(self.root))
 
     def test_reports_a_definition_that_changed(self):
-        self.write('crates/chunks/specs/Pieces.antt', 'abbrev pub pieceOf : ℕ → ℕ\npieceOf n = 0\n')
+        self.write('crates/chunks/specs/Pieces.antt', 'abbrev pub piece_of : ℕ → ℕ\npiece_of n = 0\n')
         gone, new = self.rule(self.root)
-        self.assertRegex(gone, r'^docs/STATEMENTS.txt:1: pinned and no longer so: chunks definition specs/Pieces.antt pieceOf \w{12}$')
-        self.assertRegex(new, r'^docs/STATEMENTS.txt:1: so and not pinned: chunks definition specs/Pieces.antt pieceOf \w{12}$')
+        self.assertRegex(gone, r'^docs/STATEMENTS.txt:1: pinned and no longer so: chunks definition specs/Pieces.antt piece_of \w{12}$')
+        self.assertRegex(new, r'^docs/STATEMENTS.txt:1: so and not pinned: chunks definition specs/Pieces.antt piece_of \w{12}$')
 
     def test_reports_a_line_too_many(self):
         self.write('docs/STATEMENTS.txt', statements.written(self.root) + '\n')
         self.assert_reports(self.rule, 'docs/STATEMENTS.txt:1: pinned and no longer so: ')
 
     def test_passes_other_comments_and_spacing(self):
-        self.write('crates/chunks/specs/Pieces.antt', '-- a comment\nabbrev pub pieceOf : ℕ\n    → ℕ\npieceOf n =\n    n -- the same\n')
+        self.write('crates/chunks/specs/Pieces.antt', '-- a comment\nabbrev pub piece_of : ℕ\n    → ℕ\npiece_of n =\n    n -- the same\n')
         self.assert_passes(self.rule)
 
 
@@ -263,7 +260,7 @@ class PromisesComplete(Repository):
         self.write('crates/chunks/proofs/Pieces.antt', '''\
 -- pub commented : ℕ
 {-
-pub in-a-block : ℕ
+pub in_a_block : ℕ
 -}
 use lib.ListN.{length}
 pub use lib.Seq.{paste}
@@ -281,13 +278,13 @@ unfoldable mutual
   pub even : ℕ → Bool
   even n = true
 
-pub pieces-sum : (n : ℕ) → n ≡ n
-pieces-sum n = refl
+pub pieces_sum : (n : ℕ) → n ≡ n
+pieces_sum n = refl
 
 module _ (c : ℕ) where
-  pub pieces-last {ℓ} :
+  pub pieces_last {ℓ} :
       (n : ℕ) → n ≡ n
-  pieces-last n = refl
+  pieces_last n = refl
 ''')
 
     def test_reports_what_the_page_lacks(self):
@@ -296,8 +293,8 @@ module _ (c : ℕ) where
             self.rule,
             'crates/chunks/src/lib.rt:1: `chunks::cut` is not in docs/PROMISES.md',
             'crates/chunks/src/lib.rt:4: `chunks::Piece::next` is not in docs/PROMISES.md',
-            'crates/chunks/proofs/Pieces.antt:21: `chunks/proofs/Pieces.antt` `pieces-sum` is not in docs/PROMISES.md',
-            'crates/chunks/proofs/Pieces.antt:25: `chunks/proofs/Pieces.antt` `pieces-last` is not in docs/PROMISES.md')
+            'crates/chunks/proofs/Pieces.antt:21: `chunks/proofs/Pieces.antt` `pieces_sum` is not in docs/PROMISES.md',
+            'crates/chunks/proofs/Pieces.antt:25: `chunks/proofs/Pieces.antt` `pieces_last` is not in docs/PROMISES.md')
 
     def test_passes_a_whole_page_and_reports_what_it_invents(self):
         page = '''\
@@ -308,8 +305,8 @@ module _ (c : ℕ) where
 
 | theorem | what |
 |---|---|
-| `chunks/proofs/Pieces.antt` `pieces-sum` | all bytes |
-|  `chunks/proofs/Pieces.antt`  `pieces-last`  | the last one |
+| `chunks/proofs/Pieces.antt` `pieces_sum` | all bytes |
+|  `chunks/proofs/Pieces.antt`  `pieces_last`  | the last one |
 
 | other | `chunks::not_a_first_cell` |
 | `chunks` | a crate |
@@ -335,8 +332,8 @@ class SpecsHoldDefinitionsOnly(Repository):
         self.write('crates/chunks/specs/Piece.antt', '''\
 pub record Piece : Type 0 where
   pub at : ℕ
-pub after-a-record : ℕ
-after-a-record = 1
+pub after_a_record : ℕ
+after_a_record = 1
 
 module _ (c : ℕ) where
   pub hidden :
@@ -347,7 +344,7 @@ module _ (c : ℕ) where
         belongs = 'is neither abbrev nor unfoldable: a theorem belongs in proofs/'
         self.assert_reports(
             self.rule,
-            f'crates/chunks/specs/Piece.antt:3: `after-a-record` {belongs}',
+            f'crates/chunks/specs/Piece.antt:3: `after_a_record` {belongs}',
             f'crates/chunks/specs/Piece.antt:7: `hidden` {belongs}',
             f'crates/chunks/specs/below/More.antt:1: `deeper` {belongs}')
 
@@ -367,68 +364,21 @@ pub record Piece (c : ℕ)
 abbrev pub Small : ℕ → Type 0
 Small n = n ≤ 8
 
-unfoldable pub pieceOf : ℕ → ℕ
-pieceOf n = n
+unfoldable pub piece_of : ℕ → ℕ
+piece_of n = n
 
 unfoldable mutual
   pub even : ℕ → Bool
   even n = true
 
-private-fact : ℕ
-private-fact = 1
+private_fact : ℕ
+private_fact = 1
 ''')
         self.assert_passes(self.rule)
 
 
 class NoAxioms(Repository):
     rule = staticmethod(rules.no_axioms)
-
-    def test_reports_a_crate_without_a_report(self):
-        self.write('crates.txt', 'chunks:\n')
-        missing = 'target/log/chunks.out:1: no report of a proof of chunks: run rt check first'
-        self.assert_reports(self.rule, missing)
-        self.write('target/log/chunks.out', 'rt: chunks proved (unchanged since it was last proved)\n')
-        self.assert_reports(self.rule, missing)
-
-    def test_reports_a_crate_that_is_not_proved(self):
-        self.write('crates.txt', 'chunks:\n')
-        self.write('target/log/chunks.out', 'fn chunks::cut: not proved\nlogic=not-proved\n')
-        self.assert_reports(self.rule, 'target/log/chunks.out:2: chunks: it is not proved')
-
-    def test_reports_what_a_library_assumes(self):
-        self.write('crates.txt', 'chunks:\nover: io libc\n')
-        self.write('crates/chunks/src/lib.rt', '')
-        self.write('crates/over/src/lib.rt', '')
-        self.write('target/log/chunks.out', '''\
-fn chunks::magic: assumed: a foreign function, whose contract is taken as written
-logic=proved functions=1 foreign=chunks::magic sum=064da1ca440f63e7 native=nat,char,string
-''')
-        self.write('target/log/over.out', '''\
-library io: modules loaded=83 checked=0
-library libc: modules loaded=11 checked=0
-axioms libc: libc::write (1 of the 50 declared)
-logic=proved functions=1 axioms=1 target=x86_64-unknown-linux-gnu sum=064da1ca440f63e7 native=nat,char,string
-''')
-        self.assert_reports(
-            self.rule,
-            'target/log/chunks.out:2: chunks: it declares C functions of its own: chunks::magic',
-            'target/log/over.out:2: over: a library that leans on libc, whose contracts are assumed',
-            'target/log/over.out:3: over: it leans on axioms of libc: libc::write (1 of the 50 declared)',
-            'target/log/over.out:4: over: a library that leans on axioms')
-
-    def test_reports_what_a_program_assumes_of_its_own(self):
-        self.write('crates.txt', 'show: adds\n')
-        self.write('crates/show/src/main.rt', '')
-        self.write('target/log/show.out', '''\
-axioms adds: adds::plus (1 of the 2 declared)
-axioms show: show::magic (1 of 1 declared)
-logic=proved functions=1 foreign=show::magic axioms=2 target=x86_64-unknown-linux-gnu sum=064da1ca440f63e7
-''')
-        self.assert_reports(
-            self.rule,
-            'target/log/show.out:1: show: it leans on axioms of adds: adds::plus (1 of the 2 declared)',
-            'target/log/show.out:2: show: it leans on axioms of show: show::magic (1 of 1 declared)',
-            'target/log/show.out:3: show: it declares C functions of its own: show::magic')
 
     def test_reports_an_axiom_of_antt(self):
         self.write('crates/chunks/proofs/Bad.antt', '-- axiom no : ℕ\n\naxiom pub bad : (a b : ℕ) → a ≡ b\n')
@@ -438,40 +388,42 @@ logic=proved functions=1 foreign=show::magic axioms=2 target=x86_64-unknown-linu
             'crates/chunks/proofs/Bad.antt:3: an axiom: axiom pub bad : (a b : ℕ) → a ≡ b',
             'crates/chunks/specs/Deep.antt:2: an axiom: axiom deep : ℕ')
 
-    def test_passes_libraries_and_a_program_over_the_kit(self):
-        self.write('crates.txt', '# cuts\nchunks:\n# shows\nshow: chunks io libc os # and more\n')
+    def test_reports_declared_c_functions(self):
+        self.write('crates/chunks/src/lib.rt', '// extern "C" {\n\nextern "C" {\n    fn magic() -> u32;\n}\n')
+        self.write('crates/show/src/main.rt', 'fn main() {}\n\nunsafe extern "C" {\n    fn magic() -> u32;\n}\n')
+        own = 'C functions of its own, whose contracts nothing proves'
+        self.assert_reports(self.rule, f'crates/chunks/src/lib.rt:3: {own}', f'crates/show/src/main.rt:3: {own}')
+
+    def test_reports_a_library_over_the_kits_c_functions(self):
+        self.write('crates.txt', 'chunks:\nover staticlib: chunks io libc\n')
         self.write('crates/chunks/src/lib.rt', '')
+        self.write('crates/over/src/lib.rt', '')
+        self.assert_reports(self.rule, 'crates.txt:2: over: a library that leans on io, libc, whose contracts are assumed')
+
+    def test_passes_libraries_and_a_program_over_the_kit(self):
+        self.write('crates.txt', '# cuts\nchunks:\n# shows\nshow: chunks io # and more\n')
+        self.write('crates/chunks/src/lib.rt', 'pub extern "C" fn cut() {}\n')
         self.write('crates/chunks/proofs/Fine.antt', 'axiomatic : ℕ\naxiomatic = 1\n')
         self.write('crates/show/src/main.rt', '')
-        self.write('target/log/chunks.out', 'library libc: modules loaded=0 checked=0\n' + PROVED)
-        self.write('target/log/show.out', '''\
-library os: modules loaded=151 checked=0
-axioms libc: libc::close, libc::read, libc::write (3 of the 50 declared)
-axioms os: os::c::__xpg_strerror_r, os::c::rattle_arg, os::c::rattle_errno, ... (5 of the 10 declared)
-logic=proved functions=5 axioms=8 target=x86_64-unknown-linux-gnu sum=064da1ca440f63e7 native=nat,char,string
-rt: show proved (8 s)
-''')
-        self.assert_passes(self.rule)
-
-    def test_passes_the_older_report_of_an_unchanged_crate(self):
-        self.write('crates.txt', 'chunks:\n')
-        self.write('target/log/chunks.out', 'rt: chunks proved (unchanged since it was last proved)\n')
-        self.write('target/log/chunks.say', PROVED)
         self.assert_passes(self.rule)
 
 
 class EditsNameTheirFacts(Repository):
     rule = staticmethod(rules.edits_name_their_facts)
 
-    def test_reports_an_edit_without_a_fact(self):
-        self.write('crates/chunks/src/lib.rt', '')
+    def test_reports_an_edit_without_a_fact_and_one_that_does_not_apply(self):
+        self.write('crates/chunks/src/lib.rt', '1')
         self.write('crates/chunks/must-fail/one.edit', 'file: src/lib.rt\nold: 1\nnew: 2\n')
-        self.write('crates/chunks/must-fail/more/two.edit', 'file: src/lib.rt\nold: 1\nnew: 2\nfact: proofs/cut/Proof.antt\n')
-        self.assert_reports(self.rule, 'crates/chunks/must-fail:1: chunks/one names no fact', 'crates/chunks/must-fail:1: chunks/two names no fact')
+        self.write('crates/chunks/must-fail/two.edit', 'file: src/lib.rt\nold: 1\nnew: 2\nfact: chunks::cut\n')
+        self.write('crates/chunks/must-fail/three.edit', 'file: src/lib.rt\nold: 3\nnew: 2\nfact: chunks::cut returns\n')
+        no_fact = "it names no fact: a line 'fact: FUNCTION GOAL' or 'fact: FILE DECLARATION'"
+        self.assert_reports(self.rule, f'crates/chunks/must-fail/one.edit:1: {no_fact}',
+                            'crates/chunks/must-fail/three.edit:1: its old text stands 0 times in src/lib.rt',
+                            f'crates/chunks/must-fail/two.edit:1: {no_fact}')
 
     def test_passes_an_edit_with_a_fact(self):
-        self.write('crates/chunks/src/lib.rt', '')
-        self.write('crates/chunks/must-fail/one.edit', 'file: src/lib.rt\nold: 1\nnew: 2\nfact: proofs/cut/Proof.antt returns\n')
+        self.write('crates/chunks/src/lib.rt', '1')
+        self.write('crates/chunks/must-fail/one.edit', 'file: src/lib.rt\nold: 1\nnew: 2\nfact: chunks::cut returns\n')
         self.assert_passes(self.rule)
 
 
@@ -480,14 +432,14 @@ class ExportedCallsAreAttacked(Repository):
 
     def setUp(self):
         super().setUp()
-        self.write('crates/calls/src/lib.rt', '#[no_mangle]\npub extern "C" fn begin() -> u32 {\n    0\n}\n\npub fn inside() {}\n')
+        self.write('crates/calls/src/lib.rt', '#[unsafe(no_mangle)]\npub extern "C" fn begin() -> u32 {\n    0\n}\n\npub fn inside() {}\n')
 
     def test_reports_a_call_without_an_edit_of_its_own(self):
-        self.write('crates/calls/must-fail/one.edit', 'fact: proofs/inside/Proof.antt returns\n')
+        self.write('crates/calls/must-fail/one.edit', 'fact: calls::inside returns\n')
         self.assert_reports(self.rule, 'crates/calls/src/lib.rt:2: no edit breaks a fact of `calls::begin`')
 
     def test_passes_a_call_with_one(self):
-        self.write('crates/calls/must-fail/more/one.edit', 'fact: proofs/begin/Proof.antt returns\n')
+        self.write('crates/calls/must-fail/one.edit', 'fact: below::begin returns\n')
         self.assert_passes(self.rule)
 
 
@@ -519,7 +471,7 @@ class CratesListed(Repository):
             'crates/lost:1: not listed in crates.txt')
 
     def test_passes_a_list_with_comments(self):
-        self.write('crates.txt', '# cuts\nchunks:\n\n# events\nbus: chunks # over it\n')
+        self.write('crates.txt', '# cuts\nchunks:\n\n# events\nbus staticlib: chunks # over it\n')
         self.write('crates/bus/src/lib.rt', '')
         self.write('crates/chunks/src/lib.rt', '')
         self.assert_passes(self.rule)

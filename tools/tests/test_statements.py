@@ -7,7 +7,7 @@ from repository import Repository
 import statements
 
 CODE = '''\
-ghost use Rattle·chunks·specs.specs.Pieces.{pieceOf};
+ghost use Rattle.chunks.specs.Pieces.{piece_of};
 
 pub struct Piece {
     pub at: usize,
@@ -15,7 +15,7 @@ pub struct Piece {
 
 // how many bytes go next
 pub fn cut(left: u64) -> u64
-    ensures { λ r. ⌜ r ≡ pieceOf left ⌝ }
+    ensures { result ≡ piece_of left }
 {
     left
 }
@@ -23,40 +23,40 @@ pub fn cut(left: u64) -> u64
 fn private() {}
 '''
 DEFINITIONS = '''\
-use Prim.Native.Nat.{ℕ, _+_}
+use Rattle.std.specs.Prelude.{ℕ, ◌+◌}
 
 pub data Kind : Type 0 where
   small : Kind
   large : ℕ → Kind
 
-unfoldable pub pieceOf : ℕ → ℕ
-pieceOf n = helper n
+unfoldable pub piece_of : ℕ → ℕ
+piece_of n = helper n
 
 helper : ℕ → ℕ
 helper n = n + 0
 '''
 THEOREMS = '''\
-use Rattle·chunks·specs.specs.Pieces.{pieceOf}
-use Rattle·chunks·proofs.proofs.Laws.{law}
+use Rattle.chunks.specs.Pieces.{piece_of}
+use Rattle.chunks.proofs.Laws.{law}
 
 abbrev Whole : ℕ → Type 0
-Whole n = pieceOf n ≡ n
+Whole n = piece_of n ≡ n
 
 abbrev unused : ℕ
 unused = 1
 
-private-fact : ℕ
-private-fact = 1
+private_fact : ℕ
+private_fact = 1
 
 module _ (n : ℕ) (small : n ≤ 8)
   where
-    pub piece-whole : Whole n
-    unfolding pieceOf
-    piece-whole = refl
+    pub piece_whole : Whole n
+    unfolding piece_of
+    piece_whole = refl
 '''
 PINNED = {('call', 'src/lib.rt', 'cut'), ('type', 'src/lib.rt', 'Piece'), ('definition', 'specs/Pieces.antt', 'Kind'),
-          ('definition', 'specs/Pieces.antt', 'pieceOf'), ('definition', 'specs/Pieces.antt', 'helper'),
-          ('definition', 'proofs/Whole.antt', 'Whole'), ('theorem', 'proofs/Whole.antt', 'piece-whole')}
+          ('definition', 'specs/Pieces.antt', 'piece_of'), ('definition', 'specs/Pieces.antt', 'helper'),
+          ('definition', 'proofs/Whole.antt', 'Whole'), ('theorem', 'proofs/Whole.antt', 'piece_whole')}
 
 
 class Statements(Repository):
@@ -83,29 +83,29 @@ class Statements(Repository):
         self.assertEqual(set(self.hashes()), PINNED)
 
     def test_a_change_shows_in_its_own_line(self):
-        self.assertEqual(self.changed('src/lib.rt', 'r ≡ pieceOf left', 'r ≡ r'), {'cut'})
+        self.assertEqual(self.changed('src/lib.rt', 'result ≡ piece_of left', 'result ≡ result'), {'cut'})
         self.assertEqual(self.changed('src/lib.rt', 'at: usize', 'at: u32'), {'Piece'})
         self.assertEqual(self.changed('specs/Pieces.antt', 'n + 0', 'n + 1'), {'helper'})
         self.assertEqual(self.changed('specs/Pieces.antt', 'large : ℕ → Kind', 'large : Kind'), {'Kind'})
-        self.assertEqual(self.changed('proofs/Whole.antt', 'pieceOf n ≡ n', 'n ≡ n'), {'Whole'})
-        self.assertEqual(self.changed('proofs/Whole.antt', 'pub piece-whole : Whole n', 'pub piece-whole : ℕ'), {'piece-whole', 'Whole'})
+        self.assertEqual(self.changed('proofs/Whole.antt', 'piece_of n ≡ n', 'n ≡ n'), {'Whole'})
+        self.assertEqual(self.changed('proofs/Whole.antt', 'pub piece_whole : Whole n', 'pub piece_whole : ℕ'), {'piece_whole', 'Whole'})
 
     def test_a_premise_of_a_section_is_part_of_the_statement(self):
-        self.assertEqual(self.changed('proofs/Whole.antt', 'n ≤ 8', 'n ≤ 7'), {'piece-whole'})
+        self.assertEqual(self.changed('proofs/Whole.antt', 'n ≤ 8', 'n ≤ 7'), {'piece_whole'})
 
     def test_a_name_that_comes_from_elsewhere_changes_the_statement(self):
-        self.assertEqual(self.changed('src/lib.rt', 'specs.specs.Pieces.{', 'specs.specs.Others.{'), {'cut'})
+        self.assertEqual(self.changed('src/lib.rt', 'specs.Pieces.{', 'specs.Others.{'), {'cut'})
 
     def test_code_proofs_comments_and_spacing_change_nothing(self):
         self.assertEqual(self.changed('src/lib.rt', '    left\n', '    left + 0\n'), set())
         self.assertEqual(self.changed('src/lib.rt', '// how many', '// so many'), set())
-        self.assertEqual(self.changed('src/lib.rt', 'ensures { λ r.', 'ensures {\n    λ   r.'), set())
-        self.assertEqual(self.changed('proofs/Whole.antt', 'piece-whole = refl', 'piece-whole = sym refl'), set())
-        self.assertEqual(self.changed('proofs/Whole.antt', 'unfolding pieceOf', 'unfolding pieceOf helper'), set())
+        self.assertEqual(self.changed('src/lib.rt', 'ensures { result', 'ensures {\n    result  '), set())
+        self.assertEqual(self.changed('proofs/Whole.antt', 'piece_whole = refl', 'piece_whole = sym refl'), set())
+        self.assertEqual(self.changed('proofs/Whole.antt', 'unfolding piece_of', 'unfolding piece_of helper'), set())
 
     def test_what_vanishes_shows(self):
         self.assertEqual(self.changed('src/lib.rt', 'pub fn cut', 'fn cut'), {'cut'})
-        self.assertEqual(self.changed('proofs/Whole.antt', '    pub piece-whole', '    piece-whole'), {'piece-whole', 'Whole'})
+        self.assertEqual(self.changed('proofs/Whole.antt', '    pub piece_whole', '    piece_whole'), {'piece_whole', 'Whole'})
 
 
 if __name__ == '__main__':

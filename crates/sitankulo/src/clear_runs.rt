@@ -81,8 +81,7 @@ fn run_held(
 }
 
 // Polls over a tape.
-#[unsafe(no_mangle)]
-pub extern "C" fn sitankulo_clear_run(
+pub fn sitankulo_clear_run(
     clear: &mut [u8],
     pins: u8,
     reset: u8,

@@ -103,8 +103,7 @@ fn step_held(
 }
 
 // A fresh clear.
-#[unsafe(no_mangle)]
-pub extern "C" fn sitankulo_clear_fresh(
+pub fn sitankulo_clear_fresh(
     clear: &mut [u8],
     pins: u8,
     time: u64,
@@ -120,8 +119,7 @@ pub extern "C" fn sitankulo_clear_fresh(
 }
 
 // One poll.
-#[unsafe(no_mangle)]
-pub extern "C" fn sitankulo_clear_step(
+pub fn sitankulo_clear_step(
     clear: &mut [u8],
     pins: u8,
     time: u64,

@@ -40,8 +40,7 @@ fn verdict_number(verdict: Verdict) -> u32
 }
 
 // Whether a list gets the controller stuck.
-#[unsafe(no_mangle)]
-pub extern "C" fn sitankulo_inspect(words: &[u8], fifo: &[u8], phase: u32) -> u32
+pub fn sitankulo_inspect(words: &[u8], fifo: &[u8], phase: u32) -> u32
     ensures { result ≡ inspect_answer words.now fifo.now phase }
 {
     if words.len() != answer::WORDS {
@@ -75,8 +74,7 @@ fn report_number(report: Report) -> u32
 }
 
 // Runs a list on the controller model, against a sensor.
-#[unsafe(no_mangle)]
-pub extern "C" fn sitankulo_model_run(
+pub fn sitankulo_model_run(
     words: &[u8],
     fifo: &[u8],
     phase: u32,

@@ -1,4 +1,4 @@
-// The calls for C, over numbers and byte slices: see include/sitankulo.h. Each reads its arguments, asks one function of another crate,
+// The calls over numbers and byte slices, which sitankulo_c exports for C. Each reads its arguments, asks one function of another crate,
 // tests the room in the lent memory and writes.
 #![tactic(auto)]
 

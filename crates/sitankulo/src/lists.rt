@@ -30,8 +30,7 @@ fn hand_out(built: Built, words: &mut [u8], fifo: &mut [u8]) -> u32
 }
 
 // The list that writes these bytes.
-#[unsafe(no_mangle)]
-pub extern "C" fn sitankulo_build_write(
+pub fn sitankulo_build_write(
     address: u32,
     bytes: &[u8],
     flags: u8,
@@ -46,8 +45,7 @@ pub extern "C" fn sitankulo_build_write(
 }
 
 // The list that reads n bytes.
-#[unsafe(no_mangle)]
-pub extern "C" fn sitankulo_build_read(
+pub fn sitankulo_build_read(
     address: u32,
     n: usize,
     flags: u8,

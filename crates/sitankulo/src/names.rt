@@ -19,8 +19,7 @@ fn tell(name: &[u8], text: &mut [u8]) -> u32
 }
 
 // The name of a refusal, as document 01 has it.
-#[unsafe(no_mangle)]
-pub extern "C" fn sitankulo_refusal_name(number: u8, text: &mut [u8]) -> u32
+pub fn sitankulo_refusal_name(number: u8, text: &mut [u8]) -> u32
     ensures value { result ≡ told_answer (name_of number) (length text.old) }
     ensures text_after { text.new ≡ told_text (name_of number) text.old }
 {

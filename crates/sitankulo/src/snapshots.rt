@@ -30,8 +30,7 @@ fn number(classified: Classified) -> u32
 }
 
 // What a snapshot means for a list by itself.
-#[unsafe(no_mangle)]
-pub extern "C" fn sitankulo_classify(
+pub fn sitankulo_classify(
     bits: u8,
     commands: &[u8],
     time: u64,

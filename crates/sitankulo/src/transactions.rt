@@ -82,8 +82,7 @@ fn roomless_number(number: u8) -> u8
 }
 
 // Accepts a script.
-#[unsafe(no_mangle)]
-pub extern "C" fn sitankulo_begin(
+pub fn sitankulo_begin(
     state: &mut [u8],
     deadline: u8,
     duration: u64,
@@ -124,8 +123,7 @@ pub extern "C" fn sitankulo_begin(
 }
 
 // The next list.
-#[unsafe(no_mangle)]
-pub extern "C" fn sitankulo_next(
+pub fn sitankulo_next(
     state: &mut [u8],
     deadline: u8,
     duration: u64,
@@ -201,8 +199,7 @@ fn does_tell(number: u8) -> bool
 }
 
 // What became of the outstanding list.
-#[unsafe(no_mangle)]
-pub extern "C" fn sitankulo_complete(
+pub fn sitankulo_complete(
     state: &mut [u8],
     address: u32,
     script: &[u8],
@@ -251,8 +248,7 @@ pub extern "C" fn sitankulo_complete(
 }
 
 // Gives the transaction up.
-#[unsafe(no_mangle)]
-pub extern "C" fn sitankulo_abandon(state: &mut [u8], bits: u8, commands: &[u8], time: u64) -> u32
+pub fn sitankulo_abandon(state: &mut [u8], bits: u8, commands: &[u8], time: u64) -> u32
     ensures { (result ≡ abandon_answer state.old commands.now
         (abandoned_for state.old bits commands.now time))
         × (state.new ≡ cond (goes_ahead result) (renewed state.old

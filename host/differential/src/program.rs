@@ -18,7 +18,7 @@ pub fn committed(program: &str, file: &str) -> String {
     fs::read_to_string(&path).unwrap_or_else(|error| panic!("{}: {error}", path.display()))
 }
 
-/// What a proved program writes when it reads `input`. It has to be built: `rt check NAME`.
+/// What a proved program writes when it reads `input`. It has to be built: `rt run` in its folder, or `rt ci`.
 pub fn run(program: &str, input: &str) -> String {
     let mut child = Command::new(top().join("tools/run"))
         .arg(program)
