@@ -1,9 +1,8 @@
 -- Worked examples of the traffic, by computation, at the sensor's address 29 hex: 52 opens a write, 53 a read.
 -- Assumes nothing.
 use mathlib.Core.Path.{◌≡◌, refl}
-use mathlib.Core.List.{[], ◌∷◌, ◌++◌, map}
-use lib.ListN.{get_or, drop}
-use Rattle.bus.specs.Events.{ack, nack, start_bit, stop_bit, sent, got, to_sensor, from_sensor, direction_bit}
+use mathlib.Core.List.{[], ◌∷◌}
+use Rattle.bus.specs.Events.{ack, nack, start_bit, stop_bit, sent, got}
 use Rattle.bus.specs.Operations.{write, read, kept, join, runs}
 use Rattle.bus.specs.Traffic.{opening, written, next_byte, received, transferred, on_bus, traffic, cut}
 

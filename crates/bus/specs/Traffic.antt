@@ -1,6 +1,6 @@
 -- The traffic of kept operations, and where a byte that is not acknowledged cuts it, after UM10204.
 use Rattle.std.specs.Prelude.{ℕ, zero, suc, ◌+◌, ◌*◌, List, [], ◌∷◌, ◌++◌, map, get_or, drop}
-use Rattle.bus.specs.Events.{Acknowledge, ack, nack, Event, start_bit, stop_bit, sent, got, Direction, to_sensor, from_sensor, direction_bit}
+use Rattle.bus.specs.Events.{ack, nack, Event, start_bit, stop_bit, sent, got, Direction, to_sensor, from_sensor, direction_bit}
 use Rattle.bus.specs.Operations.{Operation, Transfer, writes, reads, runs}
 
 -- 3.1.10: after a START come the seven bits of the address and the direction bit. What opens a run is this definition alone

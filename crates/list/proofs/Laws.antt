@@ -6,7 +6,7 @@ use native.Mathlib.Nat.{zero-add, add-zero, add-suc, zero-sub, sub-zero, suc-sub
 use native.Mathlib.Numerals.{add-one}
 use native.Mathlib.Omega.{arith}
 use mathlib.Core.Path.{◌≡◌, refl, sym}
-use mathlib.Core.Bool.{Bool, true, false, cond}
+use mathlib.Core.Bool.{Bool, true, false}
 use mathlib.Core.List.{List, [], ◌∷◌, ◌++◌, map}
 use lib.ListN.{length, drop, set, get_or, replicate, length-replicate, length-map, length-append}
 use lib.Seq.{sets, sets-eq, drop-cons}
@@ -14,7 +14,7 @@ use borrow.Author.Tests.{le-ltb, ne_eqb}
 use Rattle.bus.specs.Events.{to_sensor, from_sensor}
 use Rattle.bus.specs.Traffic.{opening}
 use Rattle.command.specs.declared.Command.{Command}
-use Rattle.command.specs.declared.Command.TheVariants.{Start, Write, Read, ReadNack, End}
+use Rattle.command.specs.declared.Command.TheVariants.{Start, Write, Read, End}
 use Rattle.command.specs.Word.{encode_of}
 use Rattle.list.specs.Lists.{sent_bytes, address_bytes, write_limit, read_limit, counted, closing, receiving, write_fifo, write_commands, read_fifo, read_commands, padded, listed, write_of, read_of}
 

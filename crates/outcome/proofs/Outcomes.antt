@@ -2,13 +2,11 @@
 -- numbers tell the answers apart.
 -- Assumes nothing.
 use Prim.Native.Nat.{ℕ, ◌≤◌, ◌<◌}
-use native.Mathlib.Omega.{arith}
 use mathlib.Core.Path.{◌≡◌, refl, sym, ap, ◌∙◌}
-use mathlib.Core.Bool.{Bool, true, false, cond, ◌&&◌}
-use mathlib.Core.List.{List, []}
+use mathlib.Core.Bool.{true, false, cond}
 use lib.Dec.{eqb}
 use borrow.Author.Tests.{le-ltb, lt-ltb}
-use Rattle.outcome.specs.Answers.{answer_of, answering}
+use Rattle.outcome.specs.Answers.{answer_of}
 use Rattle.outcome.specs.Outcomes.{unanswered_of, timed_out_of, errors_of, finished_of, poll_of, commands_of, classify_of}
 use Rattle.outcome.specs.declared.Reason.TheVariants.{Address, Data, Unknown}
 use Rattle.outcome.specs.declared.Error.TheVariants.{ExecutionIncomplete, AcknowledgeCheckFailed, ArbitrationLost, Timeout}

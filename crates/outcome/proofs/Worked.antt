@@ -2,15 +2,13 @@
 -- Assumes nothing.
 use Prim.Native.Nat.{ℕ}
 use mathlib.Core.Path.{◌≡◌, refl}
-use mathlib.Core.Bool.{Bool, true, false}
-use mathlib.Core.List.{List, [], ◌∷◌, map}
+use mathlib.Core.Bool.{true, false}
+use mathlib.Core.List.{[], ◌∷◌, map}
 use Rattle.outcome.specs.declared.Reason.TheVariants.{Address, Data, Unknown}
 use Rattle.outcome.specs.declared.Error.TheVariants.{ExecutionIncomplete, AcknowledgeCheckFailed, ArbitrationLost, Timeout}
 use Rattle.outcome.specs.declared.Outcome.{Outcome}
 use Rattle.outcome.specs.declared.Outcome.TheVariants.{Pending, Done, Failed}
-use Rattle.outcome.specs.declared.Snapshot.{Snapshot}
 use Rattle.outcome.specs.declared.Due.TheVariants.{Never, At}
-use Rattle.outcome.specs.declared.Classified.{Classified}
 use Rattle.outcome.specs.Packed.{unpacked}
 use Rattle.outcome.specs.Answers.{answer_of, answering}
 use Rattle.outcome.specs.Outcomes.{errors_of, past_of, forgive_timeout, and_then, poll_of, slots_of, commands_of, classify_of, received_of}

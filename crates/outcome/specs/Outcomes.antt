@@ -2,7 +2,6 @@
 use Rattle.std.specs.Prelude.{ℕ, Bool, true, false, cond, not, ◌&&◌, ◌||◌, List, [], ◌∷◌, ltb, eqb}
 use Rattle.command.specs.Word.{opcode_of, done_of, end_opcode, stop_opcode}
 use Rattle.outcome.specs.declared.Reason.TheVariants.{Data, Unknown}
-use Rattle.outcome.specs.declared.Error.{Error}
 use Rattle.outcome.specs.declared.Error.TheVariants.{ExecutionIncomplete, AcknowledgeCheckFailed, ArbitrationLost, Timeout}
 use Rattle.outcome.specs.declared.Outcome.{Outcome}
 use Rattle.outcome.specs.declared.Outcome.TheVariants.{Pending, Done, Failed}

@@ -4,7 +4,7 @@ use Prim.Native.Nat.{ℕ, ◌+◌, ◌*◌, ◌/◌, ◌%◌, ◌<◌}
 use native.Mathlib.Nat.{add-zero, div-div-eq-div-mul, div-add-mod, mod-eq_of_lt, mod-lt}
 use native.Mathlib.Omega.{arith}
 use mathlib.Core.Path.{◌≡◌, sym, ap, ◌∙◌}
-use mathlib.Core.List.{List, [], ◌∷◌, ◌++◌, append_assoc}
+use mathlib.Core.List.{List, ◌++◌, append_assoc}
 use lib.ListN.{length, get_or, length-append}
 use lib.Seq.{get_or-append-add}
 use Rattle.wire.specs.Numbers.{four_bytes, time_bytes, word_at, time_at}

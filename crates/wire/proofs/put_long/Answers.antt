@@ -5,7 +5,6 @@ use mathlib.Core.List.{List}
 use lib.Seq.{sets}
 use Rattle.wire.specs.Numbers.{four_bytes}
 use Rattle.wire.proofs.Laws.{sets_append}
-use Rattle.wire.proofs.put_word.Reads as put-word-reads
 use Rattle.wire.proofs.put_long.Goals as goal
 
 pub returns : goal.returns

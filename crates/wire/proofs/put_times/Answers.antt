@@ -8,7 +8,6 @@ use lib.ListN.{length, drop, get_or, drop_of_length-le}
 use lib.Seq.{sets, length-sets}
 use Rattle.wire.specs.Numbers.{time_bytes, laid, times_bytes}
 use Rattle.wire.proofs.Laws.{laid_size, next_laid, no_room, put}
-use Rattle.wire.proofs.put_long.Reads as put-long-reads
 use Rattle.wire.proofs.put_times.Goals as goal
 
 pub returns-then-out-times : goal.returns-then-out-times

@@ -4,7 +4,6 @@ use mathlib.Core.Path.{◌≡◌}
 use lib.ListN.{length, drop}
 use lib.Seq.{sets}
 use Rattle.wire.specs.Numbers.{times_bytes}
-use Rattle.wire.proofs.put_long.Reads as put-long-reads
 use Rattle.wire.proofs.put_times.Given as goal
 
 abbrev pub invariant-loop-i : goal.invariant-loop-i

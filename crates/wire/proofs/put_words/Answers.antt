@@ -8,7 +8,6 @@ use lib.Seq.{sets, length-sets}
 use borrow.Author.Rules.{rules}
 use Rattle.wire.specs.Numbers.{four_bytes, laid, word_bytes}
 use Rattle.wire.proofs.Laws.{laid_size, next_laid, no_room, put}
-use Rattle.wire.proofs.put_word.Reads as put-word-reads
 use Rattle.wire.proofs.put_words.Goals as goal
 
 pub returns-then-out-lt-WORDS : goal.returns-then-out-lt-WORDS

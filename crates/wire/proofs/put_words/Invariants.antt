@@ -4,7 +4,6 @@ use mathlib.Core.Path.{◌≡◌}
 use lib.ListN.{length, drop}
 use lib.Seq.{sets}
 use Rattle.wire.specs.Numbers.{word_bytes}
-use Rattle.wire.proofs.put_word.Reads as put-word-reads
 use Rattle.wire.proofs.put_words.Given as goal
 
 abbrev pub invariant-loop-i : goal.invariant-loop-i

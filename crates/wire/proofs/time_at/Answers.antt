@@ -4,7 +4,6 @@ use native.Mathlib.Omega.{arith}
 use lib.ListN.{length}
 use borrow.Author.Tests.{le-leb, lt-leb}
 use Rattle.wire.specs.Numbers.{time_at}
-use Rattle.wire.proofs.word_at.Reads as word-at-reads
 use Rattle.wire.proofs.time_at.Goals as goal
 
 pub returns-then-bytes-lt-TIME : goal.returns-then-bytes-lt-TIME

@@ -1,6 +1,5 @@
 -- `wire::word_at` meets its contract.
 use Rattle.wire.specs.Numbers.{word_at}
-use Rattle.wire.proofs.big_endian.Reads as big-endian-reads
 use Rattle.wire.proofs.word_at.Goals as goal
 
 pub returns : goal.returns

@@ -1,7 +1,6 @@
 -- `wire::words_of` meets its contract.
 use lib.ListN.{length}
 use borrow.Author.Tests.{le-leb, lt-leb}
-use Rattle.wire.proofs.word_at.Reads as word-at-reads
 use Rattle.wire.proofs.words_of.Goals as goal
 
 pub returns-then-bytes-lt-WORDS : goal.returns-then-bytes-lt-WORDS
