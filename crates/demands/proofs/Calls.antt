@@ -2,11 +2,11 @@
 -- Assumes nothing.
 use Prim.Native.Nat.{ℕ}
 use native.Mathlib.Omega.{arith}
-use mathlib.Core.Path.{◌≡◌, refl, sym, ap}
-use mathlib.Core.Bool.{Bool, true, false, false≢true}
-use mathlib.Core.List.{List, [], ◌∷◌}
+use mathlib.Core.Path.{refl, sym, ap}
+use mathlib.Core.Bool.{false, false≢true}
+use mathlib.Core.List.{[], ◌∷◌}
 use lib.ListN.{get_or}
-use Rattle.bus.specs.Operations.{read, write, kept}
+use Rattle.bus.specs.Operations.{read, kept}
 use Rattle.chunks.specs.Pieces.{piece_of, pieces_by, pieces}
 use Rattle.outcome.specs.declared.Due.TheVariants.{Never}
 use Rattle.outcome.specs.declared.Snapshot.{Snapshot}
@@ -17,11 +17,10 @@ use Rattle.script.specs.Scripts.{read_total, body_of, script_of}
 use Rattle.turns.specs.Steps.{write_steps, read_steps, steps_from}
 use Rattle.turns.specs.Turns.{with_list, turns_of, turn_at}
 use Rattle.transaction.specs.declared.Settings.{Settings}
-use Rattle.transaction.specs.declared.Progress.{Progress}
 use Rattle.transaction.specs.declared.Deadline.TheVariants.{None}
 use Rattle.transaction.specs.Calls.{accepted, awaiting, begin_of, next_of, complete_of, abandon_of}
 use Rattle.demands.proofs.LawsRefused.{abandoned}
-use Rattle.demands.specs.Transactions.{Later, nexts, Round, Course, course, gathered, none_listed, FailedEnds, HandsOutPlan, goes_on_after_failure, lands_in_front}
+use Rattle.demands.specs.Transactions.{nexts, Round, Course, course, gathered, none_listed, FailedEnds, HandsOutPlan, goes_on_after_failure, lands_in_front}
 
 abbrev unlimited : Settings
 unlimited = record { deadline = None }

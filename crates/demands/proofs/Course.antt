@@ -1,7 +1,7 @@
 -- Begin, then next list and completion in turn with successful snapshots, hand out exactly the plan's lists in order, then none is left;
 -- the read buffer holds the received bytes in order, and its old contents beyond.
 -- Assumes nothing.
-use Prim.Native.Nat.{ℕ, ◌+◌, ◌-◌, ◌≤◌, ◌<◌}
+use Prim.Native.Nat.{ℕ, ◌+◌, ◌-◌, ◌≤◌}
 use native.Mathlib.Nat.{zero-add, add-zero}
 use native.Mathlib.Omega.{arith}
 use mathlib.Core.Path.{◌≡◌, refl, sym, ap, ◌∙◌}
@@ -14,11 +14,9 @@ use borrow.Author.Tests.{ltb-false}
 use Rattle.bus.specs.Operations.{Operation}
 use Rattle.refusal.specs.declared.Refusal.TheVariants.{Room}
 use Rattle.outcome.specs.declared.Due.{Due}
-use Rattle.list.specs.declared.Built.{Built}
-use Rattle.list.specs.declared.CommandList.{CommandList}
 use Rattle.script.specs.Scripts.{asks, read_total, script_of}
 use Rattle.turns.specs.Steps.{Step}
-use Rattle.turns.specs.Turns.{turn, carries, receives, turns_of, turn_at}
+use Rattle.turns.specs.Turns.{carries, receives, turns_of, turn_at}
 use Rattle.turns.proofs.LawsTurns.{all_received, received_append, turn_past}
 use Rattle.transaction.specs.declared.Settings.{Settings}
 use Rattle.transaction.specs.declared.Progress.{Progress}

@@ -1,17 +1,15 @@
 -- After a failure, or once abandoned, a transaction hands out no list, whatever is called and with whatever it is handed.
 -- Assumes nothing.
 use Prim.Native.Nat.{ℕ}
-use mathlib.Core.Path.{◌≡◌, refl, sym, ap, ◌∙◌}
+use mathlib.Core.Path.{◌≡◌, refl, sym, ap}
 use mathlib.Core.Bool.{Bool, true, false, cond, not, ◌&&◌, false≢true}
 use mathlib.Core.List.{List, [], ◌∷◌}
 use lib.ListN.{length}
 use lib.Dec.{ltb}
 use Rattle.refusal.specs.declared.Refusal.TheVariants.{Shape, Room, OutOfTurn}
-use Rattle.outcome.specs.declared.Error.{Error}
 use Rattle.outcome.specs.declared.Outcome.{Outcome}
 use Rattle.outcome.specs.declared.Outcome.TheVariants.{Pending, Done, Failed}
 use Rattle.outcome.specs.declared.Snapshot.{Snapshot}
-use Rattle.outcome.specs.declared.Classified.{Classified}
 use Rattle.outcome.specs.Outcomes.{poll_of, classify_of, received_of}
 use Rattle.script.specs.Scripts.{Script, asks, refused, read_total, script_of}
 use Rattle.turns.specs.Turns.{Turn, turn, over, beyond, receives, turns_of, turn_at}
@@ -22,7 +20,6 @@ use Rattle.transaction.specs.declared.Handing.TheVariants as handing
 use Rattle.transaction.specs.declared.Completion.{Completion}
 use Rattle.transaction.specs.declared.Completion.TheVariants as completion
 use Rattle.transaction.specs.declared.Completed.{Completed}
-use Rattle.transaction.specs.declared.Abandonment.{Abandonment}
 use Rattle.transaction.specs.declared.Abandonment.TheVariants as abandonment
 use Rattle.transaction.specs.declared.Abandoned.{Abandoned}
 use Rattle.transaction.specs.Calls.{turn_handed, next_by, next_of, keeping, failing, landed_by, told_as, turn_completed, complete_by, complete_of, resets, abandon_of}

@@ -1,10 +1,10 @@
 -- Laws of a transaction that goes well: what one round does to the record and to the read buffer.
 -- Assumes nothing.
-use Prim.Native.Nat.{ℕ, ◌+◌, ◌-◌, ◌≤◌, ◌<◌}
+use Prim.Native.Nat.{ℕ, ◌+◌, ◌≤◌}
 use native.Mathlib.Omega.{arith}
 use mathlib.Core.Path.{◌≡◌, refl, sym, ap, ◌∙◌}
-use mathlib.Core.Bool.{Bool, true, false, false≢true}
-use mathlib.Core.List.{List, [], ◌∷◌, ◌++◌}
+use mathlib.Core.Bool.{true, false, false≢true}
+use mathlib.Core.List.{List, ◌++◌}
 use lib.ListN.{length, take, drop, length-drop, length-append}
 use lib.Seq.{paste, take-append_seam, drop-append-add, drop-drop, length-take-le}
 use borrow.Author.Tests.{le-ltb}
@@ -14,18 +14,14 @@ use Rattle.outcome.specs.declared.Due.TheVariants.{Never}
 use Rattle.outcome.specs.declared.Outcome.{Outcome}
 use Rattle.outcome.specs.declared.Outcome.TheVariants.{Pending, Done, Failed}
 use Rattle.outcome.specs.declared.Snapshot.{Snapshot}
-use Rattle.outcome.specs.declared.Classified.{Classified}
 use Rattle.outcome.specs.Outcomes.{classify_of, succeeds}
-use Rattle.list.specs.declared.Built.{Built}
 use Rattle.script.specs.Scripts.{asks, read_total, script_of}
 use Rattle.turns.specs.Steps.{Step}
 use Rattle.turns.specs.Plan.{built_of}
 use Rattle.turns.specs.Turns.{turn, over, carries, receives, turns_of, turn_at}
 use Rattle.transaction.specs.declared.Settings.{Settings}
 use Rattle.transaction.specs.declared.Progress.{Progress}
-use Rattle.transaction.specs.declared.Handed.{Handed}
 use Rattle.transaction.specs.declared.Handing.TheVariants as handing
-use Rattle.transaction.specs.declared.Completed.{Completed}
 use Rattle.transaction.specs.declared.Completion.TheVariants as completion
 use Rattle.transaction.specs.declared.Timing.{Timing}
 use Rattle.transaction.specs.declared.Timing.TheVariants.{Told, OutOfRange}

@@ -1,9 +1,9 @@
 -- Laws of planned lists: the lists of the turns, one for each, are the plan.
 -- Assumes nothing.
-use Prim.Native.Nat.{ℕ, suc, ◌+◌, ◌-◌, ◌≤◌, ◌<◌}
+use Prim.Native.Nat.{ℕ, suc, ◌≤◌}
 use native.Mathlib.Omega.{arith}
-use mathlib.Core.Path.{◌≡◌, refl, sym, ap, ◌∙◌}
-use mathlib.Core.Bool.{Bool, true, false, cond, ◌&&◌}
+use mathlib.Core.Path.{◌≡◌, refl, sym, ap}
+use mathlib.Core.Bool.{Bool, true, false, cond}
 use mathlib.Core.List.{List, [], ◌∷◌, ◌++◌, map}
 use lib.ListN.{length, drop, length-take}
 use lib.Dec.{eqb}
@@ -13,7 +13,6 @@ use Rattle.bus.specs.Operations.{Operation, write, read, kept}
 use Rattle.chunks.specs.Pieces.{pieces}
 use Rattle.chunks.proofs.Laws.{pieces_by_lem}
 use Rattle.chunks.proofs.Pieces.{Each}
-use Rattle.list.specs.declared.Answer.{Answer}
 use Rattle.list.specs.declared.Answer.TheVariants.{Listed, NoList}
 use Rattle.list.specs.declared.Built.{Built}
 use Rattle.list.specs.declared.CommandList.{CommandList}

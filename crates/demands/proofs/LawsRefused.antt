@@ -3,14 +3,11 @@
 use Prim.Native.Nat.{ℕ}
 use mathlib.Core.Path.{◌≡◌, refl, sym, ◌∙◌}
 use mathlib.Core.Bool.{Bool, true, false, cond, not, ◌&&◌, false≢true}
-use mathlib.Core.List.{List, [], ◌∷◌}
 use lib.Dec.{ltb}
-use Rattle.refusal.specs.declared.Refusal.{Refusal}
 use Rattle.refusal.specs.declared.Refusal.TheVariants.{Shape, Room, OutOfTurn}
 use Rattle.outcome.specs.declared.Outcome.{Outcome}
 use Rattle.outcome.specs.declared.Outcome.TheVariants.{Pending, Done, Failed}
 use Rattle.outcome.specs.declared.Snapshot.{Snapshot}
-use Rattle.outcome.specs.declared.Classified.{Classified}
 use Rattle.outcome.specs.Outcomes.{poll_of, classify_of, received_of}
 use Rattle.list.specs.declared.CommandList.{CommandList}
 use Rattle.script.specs.Scripts.{Script, asks, refused, read_total}
@@ -18,7 +15,6 @@ use Rattle.turns.specs.Plan.{built_of}
 use Rattle.turns.specs.Turns.{Turn, turn, over, beyond, carries, receives, turns_of, turn_at}
 use Rattle.transaction.specs.declared.Settings.{Settings}
 use Rattle.transaction.specs.declared.Progress.{Progress}
-use Rattle.transaction.specs.declared.Begun.{Begun}
 use Rattle.transaction.specs.declared.Beginning.{Beginning}
 use Rattle.transaction.specs.declared.Beginning.TheVariants as beginning
 use Rattle.transaction.specs.declared.Handing.{Handing}

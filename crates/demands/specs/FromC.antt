@@ -1,6 +1,6 @@
 -- A TRANSACTION FROM C, after the contracts of its calls (sitankulo/src/transactions.rt): what each answers, and what it leaves in the memory
 -- from which the next one takes the record.
-use Rattle.std.specs.Prelude.{ℕ, ◌≡◌, Bool, true, cond, List, [], ◌∷◌, ◌++◌, map, length, drop}
+use Rattle.std.specs.Prelude.{ℕ, ◌≡◌, true, cond, List, [], ◌∷◌, ◌++◌, map, length, drop}
 use Rattle.bus.specs.Operations.{Operation}
 use Rattle.list.specs.declared.CommandList.{CommandList}
 use Rattle.script.specs.Scripts.{asks, read_total, script_of}

@@ -1,5 +1,5 @@
 -- What is asked of the four calls of a transaction, and calls that are wrong.
-use Rattle.std.specs.Prelude.{ℕ, ◌+◌, ◌≤◌, ◌≡◌, Bool, true, false, List, [], ◌∷◌, ◌++◌, length, take, drop, replicate}
+use Rattle.std.specs.Prelude.{ℕ, ◌≤◌, ◌≡◌, Bool, true, false, List, [], ◌∷◌, ◌++◌, length, take, drop, replicate}
 use Rattle.bus.specs.Operations.{Operation}
 use Rattle.refusal.specs.declared.Refusal.{Refusal}
 use Rattle.refusal.specs.declared.Refusal.TheVariants.{OutOfTurn}
@@ -7,7 +7,6 @@ use Rattle.outcome.specs.declared.Due.{Due}
 use Rattle.outcome.specs.declared.Error.{Error}
 use Rattle.outcome.specs.declared.Outcome.TheVariants.{Pending, Done, Failed}
 use Rattle.outcome.specs.declared.Snapshot.{Snapshot}
-use Rattle.outcome.specs.declared.Classified.{Classified}
 use Rattle.outcome.specs.Outcomes.{classify_of, succeeds}
 use Rattle.list.specs.declared.CommandList.{CommandList}
 use Rattle.script.specs.Scripts.{asks, read_total, script_of}

@@ -1,5 +1,5 @@
 -- The calls of a transaction from C, after include/sitankulo.h: what each answers, and when the memory that is lent to it is written.
-use Rattle.std.specs.Prelude.{ℕ, ◌+◌, ◌*◌, ◌%◌, Bool, cond, not, ◌&&◌, ◌||◌, List, length, leb, ltb, eqb}
+use Rattle.std.specs.Prelude.{ℕ, ◌*◌, ◌%◌, Bool, cond, not, ◌&&◌, ◌||◌, List, length, leb, ltb, eqb}
 use Rattle.std.proofs.Math.Seq.{paste}
 use Rattle.refusal.specs.Numbers.{number_of}
 use Rattle.outcome.specs.declared.Answer.{Answer}

@@ -103,12 +103,7 @@ fn step_held(
 }
 
 // A fresh clear.
-pub fn sitankulo_clear_fresh(
-    clear: &mut [u8],
-    pins: u8,
-    time: u64,
-    changes: &mut [u8],
-) -> u32
+pub fn sitankulo_clear_fresh(clear: &mut [u8], pins: u8, time: u64, changes: &mut [u8]) -> u32
     ensures { ClearLeft (fresh_call clear.old pins time changes.old)
         result clear.old clear.new changes.old changes.new }
 {

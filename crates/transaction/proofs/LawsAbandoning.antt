@@ -6,7 +6,6 @@ use Rattle.refusal.specs.declared.Refusal.TheVariants.{OutOfTurn}
 use Rattle.outcome.specs.declared.Snapshot.{Snapshot}
 use Rattle.outcome.specs.Outcomes.{poll_of}
 use Rattle.transaction.specs.declared.Progress.{Progress}
-use Rattle.transaction.specs.declared.Abandoned.{Abandoned}
 use Rattle.transaction.specs.declared.Abandonment.TheVariants.{Quiet, ResetAndClear, Refused}
 use Rattle.transaction.specs.Calls.{failing, resets, abandon_of}
 

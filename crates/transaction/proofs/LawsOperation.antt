@@ -6,7 +6,7 @@ use native.Mathlib.Numerals.{add-one}
 use native.Mathlib.Omega.{arith}
 use mathlib.Core.Path.{◌≡◌, refl, sym, ap, ◌∙◌}
 use mathlib.Core.Bool.{Bool, true, false, cond, not, ◌&&◌, ◌||◌}
-use mathlib.Core.List.{List, [], ◌∷◌, ◌++◌}
+use mathlib.Core.List.{List, [], ◌∷◌}
 use lib.Dec.{eqb}
 use lib.ListN.{length, take, drop, length-drop}
 use lib.Seq.{take-nil, take-take, drop-drop, length-take-le}
@@ -14,7 +14,7 @@ use Rattle.bus.specs.Operations.{Operation, write, read}
 use Rattle.chunks.specs.Pieces.{piece_of, pieces, count_of, start_of}
 use Rattle.chunks.proofs.Laws.{pieces_last, piece_most, start_most}
 use Rattle.chunks.proofs.Pieces.{pieces_sum, pieces_count, pieces_start, pieces_at}
-use Rattle.turns.specs.Steps.{Step, write_step, read_step, Before, starts, is_empty, write_steps}
+use Rattle.turns.specs.Steps.{Step, write_step, read_step, write_steps}
 use Rattle.turns.specs.Turns.{with_list, turn, turn_at}
 use Rattle.turns.proofs.LawsTurns.{write_turn, read_turn_lem, pieces_some, write_listed, read_listed, write_count, read_count}
 use Rattle.transaction.specs.declared.walk.Kept.{Kept}

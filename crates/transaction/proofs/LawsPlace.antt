@@ -3,18 +3,18 @@
 use Prim.Native.Nat.{ℕ, ◌+◌, ◌-◌, ◌≤◌, ◌<◌}
 use native.Mathlib.Omega.{arith}
 use mathlib.Core.Path.{◌≡◌, refl, ap, ◌∙◌}
-use mathlib.Core.Bool.{Bool, true, false, cond, not, ◌&&◌, false≢true}
+use mathlib.Core.Bool.{Bool, true, false, cond, not, ◌&&◌}
 use mathlib.Core.List.{List, [], ◌∷◌, ◌++◌}
 use lib.ListN.{length, take, drop}
 use Rattle.bus.specs.Operations.{Operation, write, read}
 use Rattle.chunks.specs.Pieces.{pieces}
 use Rattle.chunks.proofs.Pieces.{pieces_sum}
-use Rattle.turns.specs.Steps.{Step, Before, nothing, after, starts, is_empty, read_follows, steps_from}
-use Rattle.turns.specs.Turns.{with_list, Turn, turn_at}
+use Rattle.turns.specs.Steps.{Step, Before, after, starts, is_empty, read_follows, steps_from}
+use Rattle.turns.specs.Turns.{with_list, turn_at}
 use Rattle.turns.proofs.LawsTurns.{all_received, with_list_append, with_list_received, turn_here, turn_past, write_received, read_received}
 use Rattle.transaction.specs.declared.walk.Kept.{Kept}
 use Rattle.transaction.specs.declared.walk.Flags.{Flags}
-use Rattle.transaction.specs.Walk.{direction_of, before_of, kept_at, operation_at, viewed, Sound, flags_of, steps_for}
+use Rattle.transaction.specs.Walk.{direction_of, before_of, kept_at, operation_at, viewed, flags_of, steps_for}
 
 -- "An operation starts if the one before it is not of its kind"
 module _ (k : Kept) where

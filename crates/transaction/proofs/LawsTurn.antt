@@ -4,8 +4,8 @@ use Prim.Native.Nat.{ℕ, zero, suc, ◌+◌, ◌≤◌, ◌<◌}
 use native.Mathlib.Nat.{zero-add}
 use native.Mathlib.Omega.{arith}
 use mathlib.Core.Path.{◌≡◌, refl, sym, ap, ◌∙◌}
-use mathlib.Core.Bool.{Bool, true, false, cond, not, false≢true}
-use mathlib.Core.List.{List, [], ◌∷◌, ◌++◌}
+use mathlib.Core.Bool.{true, false, cond, not, false≢true}
+use mathlib.Core.List.{List, [], ◌∷◌}
 use lib.ListN.{length, take, drop, length-drop}
 use lib.Seq.{paste, length-take-le}
 use borrow.Author.Tests.{lt-ltb, le-ltb}
@@ -20,7 +20,7 @@ use Rattle.outcome.specs.Outcomes.{classify_of, received_of}
 use Rattle.script.specs.Records.{records_of}
 use Rattle.script.specs.Scripts.{read_total}
 use Rattle.turns.specs.Steps.{Step, write_step, read_step, Before, nothing, after, starts, is_empty, read_follows, write_steps, read_steps, steps_from}
-use Rattle.turns.specs.Turns.{Turn, turn, receives, with_list, turns_of}
+use Rattle.turns.specs.Turns.{turn, receives, with_list, turns_of}
 use Rattle.turns.proofs.LawsTurns.{all_received, with_list_received, received_append, write_received, read_received, turn_received}
 use Rattle.transaction.specs.declared.walk.Found.{Found}
 use Rattle.transaction.specs.declared.walk.Found.TheVariants.{Write, Read, Over, Beyond}

@@ -1,11 +1,9 @@
 -- The four calls of a transaction, after 01, "Numbers of refusals", "Scripts and transactions" and "Outcomes".
 use Rattle.std.specs.Prelude.{ℕ, ◌+◌, Bool, true, false, cond, not, ◌&&◌, ◌||◌, List, length, ltb}
 use Rattle.std.proofs.Math.Seq.{paste}
-use Rattle.refusal.specs.declared.Refusal.{Refusal}
 use Rattle.refusal.specs.declared.Refusal.TheVariants.{Shape, Room, OutOfTurn, ClockRange}
 use Rattle.outcome.specs.declared.Due.{Due}
 use Rattle.outcome.specs.declared.Due.TheVariants.{Never}
-use Rattle.outcome.specs.declared.Error.{Error}
 use Rattle.outcome.specs.declared.Error.TheVariants.{ExecutionIncomplete, AcknowledgeCheckFailed, ArbitrationLost, Timeout}
 use Rattle.outcome.specs.declared.Outcome.{Outcome}
 use Rattle.outcome.specs.declared.Outcome.TheVariants.{Pending, Done, Failed}
@@ -16,12 +14,10 @@ use Rattle.list.specs.declared.CommandList.{CommandList}
 use Rattle.list.specs.declared.Answer.TheVariants.{NoList}
 use Rattle.list.specs.Lists.{unlisted}
 use Rattle.script.specs.Scripts.{Script, asks, refused, read_total, script_of}
-use Rattle.turns.specs.Steps.{Step}
 use Rattle.turns.specs.Plan.{built_of}
 use Rattle.turns.specs.Turns.{Turn, turn, over, beyond, carries, receives, turns_of, turn_at}
 use Rattle.transaction.specs.declared.Settings.{Settings}
 use Rattle.transaction.specs.declared.Progress.{Progress}
-use Rattle.transaction.specs.declared.Beginning.{Beginning}
 use Rattle.transaction.specs.declared.Beginning.TheVariants as beginning
 use Rattle.transaction.specs.declared.Begun.{Begun}
 use Rattle.transaction.specs.declared.Handing.{Handing}
@@ -30,7 +26,6 @@ use Rattle.transaction.specs.declared.Handed.{Handed}
 use Rattle.transaction.specs.declared.Completion.{Completion}
 use Rattle.transaction.specs.declared.Completion.TheVariants as completion
 use Rattle.transaction.specs.declared.Completed.{Completed}
-use Rattle.transaction.specs.declared.Abandonment.{Abandonment}
 use Rattle.transaction.specs.declared.Abandonment.TheVariants as abandonment
 use Rattle.transaction.specs.declared.Abandoned.{Abandoned}
 use Rattle.transaction.specs.declared.Timing.{Timing}

@@ -6,7 +6,6 @@ use Rattle.bus.specs.Operations.{Operation, write, read, kept}
 use Rattle.chunks.specs.Pieces.{pieces}
 use Rattle.script.specs.Records.{records_of}
 use Rattle.list.specs.declared.Answer.TheVariants.{NoList}
-use Rattle.list.specs.declared.Built.{Built}
 use Rattle.list.specs.declared.CommandList.{CommandList}
 use Rattle.list.specs.Lists.{unlisted, write_step_of, read_step_of}
 use Rattle.turns.specs.Steps.{Step, write_step, read_step, Before, nothing, after, starts, write_steps, read_steps, steps_from}

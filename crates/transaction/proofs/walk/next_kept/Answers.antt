@@ -1,6 +1,5 @@
 -- `transaction::walk::next_kept` meets its contract: wherever the walk stands, it has passed nothing that is kept.
 use native.Mathlib.Omega.{arith}
-use lib.ListN.{length}
 use Rattle.transaction.proofs.LawsKept.{Seen, seen}
 use Rattle.transaction.proofs.walk.next_kept.Goals.{After-next_record-step}
 use Rattle.transaction.proofs.walk.next_kept.Goals as goal
