@@ -1,9 +1,11 @@
 // The lists of a script one after another, each run on the controller model and completed, so that the next one comes.
-ghost use Rattle.std.specs.Prelude.{◌≡◌, ◌≤◌, length};
+ghost use Rattle.std.specs.Prelude.{◌≡◌, ◌≤◌, length, IfOk};
 
 use crate::listing::{first_bytes, print_heading, print_list};
 use crate::refusals;
 use list::CommandList;
+use std::io;
+use std::io::Write;
 use std::num::{wrapping_add_u8, wrapping_add_usize};
 use transaction::{Handing, Progress, Settings};
 
@@ -85,7 +87,7 @@ struct Ran {
     laid: usize,
 }
 
-fn run_list(list: CommandList, phase: u32, first: u8, events: &mut [u8], laid: usize) -> Ran
+fn run_list(list: &CommandList, phase: u32, first: u8, events: &mut [u8], laid: usize) -> Ran
     requires { (laid ≤ 65536) × (65536 ≡ length events.old) }
     ensures { result.laid ≤ 65536 }
 {
@@ -111,6 +113,7 @@ fn run_list(list: CommandList, phase: u32, first: u8, events: &mut [u8], laid: u
 
 // A list is printed, run and completed.
 fn carry_out(
+    out: &mut impl Write,
     course: Course,
     waiting: Progress,
     list: CommandList,
@@ -118,14 +121,14 @@ fn carry_out(
     script: &[u8],
     buffer: &mut [u8],
     events: &mut [u8],
-) -> Course
+) -> io::Result<Course>
     requires { (course.laid ≤ 65536) × (65536 ≡ length events.old) }
-    ensures { result.laid ≤ 65536 }
+    ensures { IfOk result (λ ran. ran.laid ≤ 65536) }
 {
     let due = waiting.due;
     let lists = wrapping_add_usize(course.lists, 1);
-    let phase = print_list(lists, list, due, course.phase);
-    let ran = run_list(list, course.phase, course.sends, events, course.laid);
+    let phase = print_list(out, lists, &list, due, course.phase)?;
+    let ran = run_list(&list, course.phase, course.sends, events, course.laid);
     let received = ran.received;
     let words = list.words;
     let completed = transaction::complete(
@@ -139,56 +142,58 @@ fn carry_out(
     let answer = completed.answer;
     let told = transaction::completion_answer(answer);
     let progress = completed.progress;
-    Course {
+    Ok(Course {
         progress: progress,
         lists: lists,
         phase: phase,
         sends: wrapping_add_u8(course.sends, (ran.count % 256) as u8),
         laid: ran.laid,
         over: told.number != 0,
-    }
+    })
 }
 
 fn take_turn(
+    out: &mut impl Write,
     course: Course,
     settings: Settings,
     address: u32,
     script: &[u8],
     buffer: &mut [u8],
     events: &mut [u8],
-) -> Course
+) -> io::Result<Course>
     requires { (course.laid ≤ 65536) × (65536 ≡ length events.old) }
-    ensures { result.laid ≤ 65536 }
+    ensures { IfOk result (λ ran. ran.laid ≤ 65536) }
 {
     let progress = course.progress;
     let handed = transaction::next_list(progress, settings, address, script, 0);
     let answer = handed.answer;
     match answer {
-        Handing::NoneLeft => ended(course),
+        Handing::NoneLeft => Ok(ended(course)),
         Handing::Refused(refusal) => {
-            print_heading(wrapping_add_usize(course.lists, 1));
-            refusals::print_refusal(refusal, script);
-            ended(course)
+            print_heading(out, wrapping_add_usize(course.lists, 1))?;
+            refusals::print_refusal(out, refusal, script)?;
+            Ok(ended(course))
         }
         Handing::Listed => {
             let waiting = handed.progress;
             let list = handed.list;
-            carry_out(course, waiting, list, address, script, buffer, events)
+            carry_out(out, course, waiting, list, address, script, buffer, events)
         }
     }
 }
 
 // All lists. No script has as many as there are turns here.
 pub(super) fn run_all(
+    out: &mut impl Write,
     progress: Progress,
     settings: Settings,
     address: u32,
     script: &[u8],
     buffer: &mut [u8],
     events: &mut [u8],
-) -> Course
+) -> io::Result<Course>
     requires { 65536 ≡ length events.old }
-    ensures { result.laid ≤ 65536 }
+    ensures { IfOk result (λ ran. ran.laid ≤ 65536) }
 {
     let mut course = Course {
         progress: progress,
@@ -200,9 +205,9 @@ pub(super) fn run_all(
     };
     for _ in 0..4096usize {
         if course.over {
-            return course;
+            return Ok(course);
         }
-        course = take_turn(course, settings, address, script, buffer, events);
+        course = take_turn(out, course, settings, address, script, buffer, events)?;
     }
-    course
+    Ok(course)
 }

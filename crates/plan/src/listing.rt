@@ -4,6 +4,8 @@ use crate::words;
 use controller::inspector::Verdict;
 use list::CommandList;
 use outcome::Due;
+use std::io;
+use std::io::Write;
 
 // The first bytes, so many.
 pub(super) fn first_bytes(bytes: &[u8; 32], count: usize) -> &[u8] {
@@ -14,65 +16,70 @@ pub(super) fn first_bytes(bytes: &[u8; 32], count: usize) -> &[u8] {
     &all[0..count]
 }
 
-fn print_fifo(bytes: &[u8]) {
+fn print_fifo(out: &mut impl Write, bytes: &[u8]) -> io::Result<()> {
     if bytes.len() == 0 {
-        print(b" nothing");
+        print(out, b" nothing")?;
     }
-    let mut i = 0;
-    while i < bytes.len() {
-        print(b" ");
-        print_byte(bytes[i]);
-        i += 1;
+    for byte in bytes {
+        print(out, b" ")?;
+        print_byte(out, *byte)?;
     }
+    Ok(())
 }
 
-fn print_due(due: Due) {
+fn print_due(out: &mut impl Write, due: Due) -> io::Result<()> {
     match due {
-        Due::Never => print(b" never"),
+        Due::Never => print(out, b" never"),
         Due::At(time) => {
-            print(b" ");
-            print_number(time);
-            print(b" us");
+            print(out, b" ")?;
+            print_number(out, time)?;
+            print(out, b" us")
         }
     }
 }
 
 // Prints the verdict, and answers the phase that the list leaves; of a refused one the phase is of no number.
-fn print_verdict(verdict: Verdict) -> u32 {
+fn print_verdict(out: &mut impl Write, verdict: Verdict) -> io::Result<u32> {
     match verdict {
         Verdict::Passes(phase) => {
-            print(b"passes, leaves ");
-            words::print_phase(phase);
-            words::phase_number(phase)
+            print(out, b"passes, leaves ")?;
+            words::print_phase(out, phase)?;
+            Ok(words::phase_number(phase))
         }
         Verdict::Refused => {
-            print(b"refused: 14 ListRefused");
-            5
+            print(out, b"refused: 14 ListRefused")?;
+            Ok(5)
         }
     }
 }
 
-pub(super) fn print_heading(number: usize) {
-    print(b"\nlist ");
-    print_number(number as u64);
-    print(b"\n");
+pub(super) fn print_heading(out: &mut impl Write, number: usize) -> io::Result<()> {
+    print(out, b"\nlist ")?;
+    print_number(out, number as u64)?;
+    print(out, b"\n")
 }
 
 // Prints a list that comes in a phase, and answers the phase that it leaves.
-pub(super) fn print_list(number: usize, list: CommandList, due: Due, phase: u32) -> u32 {
+pub(super) fn print_list(
+    out: &mut impl Write,
+    number: usize,
+    list: &CommandList,
+    due: Due,
+    phase: u32,
+) -> io::Result<u32> {
     let words = list.words;
     let fifo = list.fifo;
     let bytes = first_bytes(&fifo, list.count);
-    print_heading(number);
-    print(b"  words      ");
-    words::print_words(words);
-    print(b"\n  FIFO      ");
-    print_fifo(bytes);
-    print(b"\n  due       ");
-    print_due(due);
-    print(b"\n  inspector  ");
+    print_heading(out, number)?;
+    print(out, b"  words      ")?;
+    words::print_words(out, words)?;
+    print(out, b"\n  FIFO      ")?;
+    print_fifo(out, bytes)?;
+    print(out, b"\n  due       ")?;
+    print_due(out, due)?;
+    print(out, b"\n  inspector  ")?;
     let verdict = controller::inspector::inspect(words, bytes, phase);
-    let leaves = print_verdict(verdict);
-    print(b"\n");
-    leaves
+    let leaves = print_verdict(out, verdict)?;
+    print(out, b"\n")?;
+    Ok(leaves)
 }

@@ -10,9 +10,10 @@
 // text that cannot be read nothing is shown but the line of its first fault.
 #![tactic(auto)]
 
-use libc::STDIN_FILENO;
 use outcome::Due;
 use print::{print, print_byte, print_number};
+use std::io;
+use std::io::{Read, Write};
 use text::{Asked, Fault, Reading};
 use transaction::{Beginning, Deadline, Progress, Settings};
 
@@ -27,56 +28,64 @@ mod words;
 
 const READ_BUFFER: usize = 4096;
 
-fn print_fault(fault: Fault) {
+// No text is as long.
+const TOO_LONG: u64 = 65536;
+
+fn print_fault(out: &mut impl Write, fault: Fault) -> io::Result<()> {
     match fault {
-        Fault::UnknownWord => print(b"neither a setting nor bytes in hex"),
-        Fault::HalfByte => print(b"a byte has two hex digits"),
-        Fault::BadAddress => print(b"an address is a hex number of at most 32 bits"),
-        Fault::BadDeadline => print(b"a deadline is none, fixed or per-byte"),
-        Fault::BadDuration => print(b"a duration is a decimal number of at most 64 bits"),
-        Fault::NoAddress => print(b"the address is missing"),
-        Fault::TooLong => print(b"the script is longer than 8,192 bytes"),
+        Fault::UnknownWord => print(out, b"neither a setting nor bytes in hex"),
+        Fault::HalfByte => print(out, b"a byte has two hex digits"),
+        Fault::BadAddress => print(out, b"an address is a hex number of at most 32 bits"),
+        Fault::BadDeadline => print(out, b"a deadline is none, fixed or per-byte"),
+        Fault::BadDuration => print(out, b"a duration is a decimal number of at most 64 bits"),
+        Fault::NoAddress => print(out, b"the address is missing"),
+        Fault::TooLong => print(out, b"the script is longer than 8,192 bytes"),
     }
 }
 
-fn print_deadline(deadline: Deadline) {
+fn print_deadline(out: &mut impl Write, deadline: Deadline) -> io::Result<()> {
     match deadline {
-        Deadline::None => print(b"no deadline"),
+        Deadline::None => print(out, b"no deadline"),
         Deadline::Fixed(duration) => {
-            print(b"deadline ");
-            print_number(duration);
-            print(b" us from the start");
+            print(out, b"deadline ")?;
+            print_number(out, duration)?;
+            print(out, b" us from the start")
         }
         Deadline::PerByte(duration) => {
-            print(b"deadline ");
-            print_number(duration);
-            print(b" us a byte, from when a list is handed out");
+            print(out, b"deadline ")?;
+            print_number(out, duration)?;
+            print(out, b" us a byte, from when a list is handed out")
         }
     }
 }
 
 // Two hex digits, or all eight where two do not do.
-fn print_address(address: u32) {
-    print(b"address ");
+fn print_address(out: &mut impl Write, address: u32) -> io::Result<()> {
+    print(out, b"address ")?;
     if address > 0xFF {
-        print_byte((address / 0x100_0000) as u8);
-        print_byte((address / 0x1_0000 % 256) as u8);
-        print_byte((address / 0x100 % 256) as u8);
+        print_byte(out, (address / 0x100_0000) as u8)?;
+        print_byte(out, (address / 0x1_0000 % 256) as u8)?;
+        print_byte(out, (address / 0x100 % 256) as u8)?;
     }
-    print_byte((address % 256) as u8);
+    print_byte(out, (address % 256) as u8)
 }
 
-fn print_heading(address: u32, length: usize, deadline: Deadline) {
-    print_address(address);
-    print(b", script of ");
-    print_number(length as u64);
+fn print_heading(
+    out: &mut impl Write,
+    address: u32,
+    length: usize,
+    deadline: Deadline,
+) -> io::Result<()> {
+    print_address(out, address)?;
+    print(out, b", script of ")?;
+    print_number(out, length as u64)?;
     if length == 1 {
-        print(b" byte, ");
+        print(out, b" byte, ")?;
     } else {
-        print(b" bytes, ");
+        print(out, b" bytes, ")?;
     }
-    print_deadline(deadline);
-    print(b"\n");
+    print_deadline(out, deadline)?;
+    print(out, b"\n")
 }
 
 // A record that no transaction has begun with.
@@ -91,70 +100,83 @@ fn blank() -> Progress {
     }
 }
 
-fn print_sums(lists: usize, written: usize, read: usize) {
-    print(b"\nlists ");
-    print_number(lists as u64);
-    print(b", bytes written ");
-    print_number(written as u64);
-    print(b", bytes read ");
-    print_number(read as u64);
-    print(b"\n");
+fn print_sums(out: &mut impl Write, lists: usize, written: usize, read: usize) -> io::Result<()> {
+    print(out, b"\nlists ")?;
+    print_number(out, lists as u64)?;
+    print(out, b", bytes written ")?;
+    print_number(out, written as u64)?;
+    print(out, b", bytes read ")?;
+    print_number(out, read as u64)?;
+    print(out, b"\n")
 }
 
-fn show_accepted(progress: Progress, settings: Settings, address: u32, script: &[u8]) {
-    let mut buffer = io::buffer();
-    let mut events = io::large_buffer();
+fn show_accepted(
+    out: &mut impl Write,
+    progress: Progress,
+    settings: Settings,
+    address: u32,
+    script: &[u8],
+) -> io::Result<()> {
+    let mut buffer = [0u8; READ_BUFFER];
+    let mut events = [0u8; 65536];
     let ran = course::run_all(
+        out,
         progress,
         settings,
         address,
         script,
         &mut buffer,
         &mut events,
-    );
+    )?;
     let laid = ran.laid;
-    print(b"\nbus\n");
-    let traffic = traffic::print_traffic(&events[0..laid]);
-    print_sums(ran.lists, traffic.written, traffic.read);
+    print(out, b"\nbus\n")?;
+    let traffic = traffic::print_traffic(out, &events[0..laid])?;
+    print_sums(out, ran.lists, traffic.written, traffic.read)
 }
 
-fn show(asked: Asked, script: &[u8]) {
+fn show(out: &mut impl Write, asked: Asked, script: &[u8]) -> io::Result<()> {
     let address = asked.address;
     let deadline = asked.deadline;
-    print_heading(address, script.len(), deadline);
+    print_heading(out, address, script.len(), deadline)?;
     let settings = Settings { deadline: deadline };
     let begun = transaction::begin(blank(), settings, address, script, READ_BUFFER, false, 0);
     let answer = begun.answer;
     let progress = begun.progress;
     match answer {
-        Beginning::Refused(refusal) => refusals::print_refusal(refusal, script),
-        Beginning::Ready => show_accepted(progress, settings, address, script),
-        Beginning::ClearFirst => show_accepted(progress, settings, address, script),
+        Beginning::Refused(refusal) => refusals::print_refusal(out, refusal, script),
+        Beginning::Ready => show_accepted(out, progress, settings, address, script),
+        Beginning::ClearFirst => show_accepted(out, progress, settings, address, script),
     }
 }
 
-fn main() {
-    let mut text = io::large_buffer();
+fn answer_text(out: &mut impl Write, text: &[u8]) -> io::Result<()> {
     let mut script = [0u8; 8192];
-    let n = io::read_full(STDIN_FILENO, &mut text);
-    if n == text.len() {
-        print(b"the text is longer than 65,535 bytes\n");
-        return;
-    }
-    let reading = text::read_text(&text[..n], &mut script);
+    let reading = text::read_text(text, &mut script);
     match reading {
         Reading::Unreadable(fault, line) => {
-            print(b"line ");
-            print_number(line as u64);
-            print(b": ");
-            print_fault(fault);
-            print(b"\n");
+            print(out, b"line ")?;
+            print_number(out, line as u64)?;
+            print(out, b": ")?;
+            print_fault(out, fault)?;
+            print(out, b"\n")
         }
         Reading::Readable(asked) => {
             let length = asked.length;
             if length <= script.len() {
-                show(asked, &script[0..length]);
+                show(out, asked, &script[0..length])?;
             }
+            Ok(())
         }
     }
+}
+
+fn main(rt: HostRuntime) -> io::Result<()> {
+    let mut out = rt.stdout();
+    let mut text = [0u8; 65536];
+    let mut room = &mut text[..];
+    let n = io::copy(&mut rt.stdin().take(TOO_LONG), &mut room)?;
+    if n >= TOO_LONG {
+        return print(&mut out, b"the text is longer than 65,535 bytes\n");
+    }
+    answer_text(&mut out, &text[..n as usize])
 }

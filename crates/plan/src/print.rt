@@ -1,14 +1,15 @@
-// Text, numbers and bytes on standard output.
+// Text, numbers and bytes, written out.
 ghost use Rattle.std.specs.Prelude.{◌<◌};
 
-use libc::STDOUT_FILENO;
+use std::io;
+use std::io::Write;
 
-pub(super) fn print(text: &[u8]) {
-    io::write_all(STDOUT_FILENO, text);
+pub(super) fn print(out: &mut impl Write, text: &[u8]) -> io::Result<()> {
+    out.write_all(text)
 }
 
-pub(super) fn print_number(n: u64) {
-    io::print_decimal(STDOUT_FILENO, n);
+pub(super) fn print_number(out: &mut impl Write, n: u64) -> io::Result<()> {
+    write!(out, "{n}")
 }
 
 fn hex_digit(n: u8) -> u8
@@ -17,7 +18,7 @@ fn hex_digit(n: u8) -> u8
     if n < 10 { b'0' + n } else { b'A' + (n - 10) }
 }
 
-pub(super) fn print_byte(byte: u8) {
+pub(super) fn print_byte(out: &mut impl Write, byte: u8) -> io::Result<()> {
     let digits = [hex_digit(byte / 16), hex_digit(byte % 16)];
-    print(&digits);
+    print(out, &digits)
 }

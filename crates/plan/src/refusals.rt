@@ -4,6 +4,8 @@ ghost use Rattle.std.specs.Prelude.{◌≤◌};
 use crate::print::{print, print_number};
 use refusal::Refusal;
 use script::Record;
+use std::io;
+use std::io::Write;
 
 // What a refusal is about; a number is a place in the script.
 #[derive(Drop)]
@@ -31,18 +33,18 @@ const RECORDS: usize = 1366;
 // More than any records can read.
 const ANY: usize = 0xFFFF_FFFF;
 
-fn print_name(refusal: Refusal) {
+fn print_name(out: &mut impl Write, refusal: Refusal) -> io::Result<()> {
     match refusal {
-        Refusal::AddressInvalid => print(b" AddressInvalid"),
-        Refusal::ZeroLengthInvalid => print(b" ZeroLengthInvalid"),
-        Refusal::FifoExceeded => print(b" FifoExceeded"),
-        Refusal::Version => print(b" Version"),
-        Refusal::Shape => print(b" Shape"),
-        Refusal::Size => print(b" Size"),
-        Refusal::Room => print(b" Room"),
-        Refusal::OutOfTurn => print(b" OutOfTurn"),
-        Refusal::ClockRange => print(b" ClockRange"),
-        Refusal::ListRefused => print(b" ListRefused"),
+        Refusal::AddressInvalid => print(out, b" AddressInvalid"),
+        Refusal::ZeroLengthInvalid => print(out, b" ZeroLengthInvalid"),
+        Refusal::FifoExceeded => print(out, b" FifoExceeded"),
+        Refusal::Version => print(out, b" Version"),
+        Refusal::Shape => print(out, b" Shape"),
+        Refusal::Size => print(out, b" Size"),
+        Refusal::Room => print(out, b" Room"),
+        Refusal::OutOfTurn => print(out, b" OutOfTurn"),
+        Refusal::ClockRange => print(out, b" ClockRange"),
+        Refusal::ListRefused => print(out, b" ListRefused"),
     }
 }
 
@@ -126,67 +128,92 @@ fn trouble_of(refusal: Refusal, script: &[u8]) -> Trouble {
 
 // WHAT TO DO
 
-fn print_place(place: usize) {
-    print(b"  at byte ");
-    print_number(place as u64);
-    print(b" of the script (the first is byte 0)\n");
+fn print_place(out: &mut impl Write, place: usize) -> io::Result<()> {
+    print(out, b"  at byte ")?;
+    print_number(out, place as u64)?;
+    print(out, b" of the script (the first is byte 0)\n")
 }
 
-fn print_trouble(trouble: Trouble) {
+fn print_trouble(out: &mut impl Write, trouble: Trouble) -> io::Result<()> {
     match trouble {
         Trouble::Address => {
-            print(b"  at the address\n");
-            print(b"  Give the seven bits of the address without the direction bit: 00 to 7F.\n");
+            print(out, b"  at the address\n")?;
+            print(
+                out,
+                b"  Give the seven bits of the address without the direction bit: 00 to 7F.\n",
+            )
         }
         Trouble::NoHeader(place) => {
-            print_place(place);
+            print_place(out, place)?;
             print(
+                out,
                 b"  Begin with three bytes: the version, 01, and the length of the body in two.\n",
-            );
+            )
         }
         Trouble::Version => {
-            print_place(0);
-            print(b"  Begin with the version 01.\n");
+            print_place(out, 0)?;
+            print(out, b"  Begin with the version 01.\n")
         }
         Trouble::LongBody => {
-            print_place(1);
-            print(b"  Split the script: a body has at most 4,096 bytes (10 00).\n");
+            print_place(out, 1)?;
+            print(
+                out,
+                b"  Split the script: a body has at most 4,096 bytes (10 00).\n",
+            )
         }
         Trouble::OtherLength => {
-            print_place(1);
-            print(b"  Put here, in two bytes, how many bytes follow the first three.\n");
+            print_place(out, 1)?;
+            print(
+                out,
+                b"  Put here, in two bytes, how many bytes follow the first three.\n",
+            )
         }
         Trouble::BadRecord(place) => {
-            print_place(place);
+            print_place(out, place)?;
             print(
+                out,
                 b"  Give this record two bytes of length, a kind, 00 to write or 01 to read, and all the bytes that it writes.\n",
-            );
+            )
         }
         Trouble::LongReads(place) => {
-            print_place(place);
+            print_place(out, place)?;
             print(
+                out,
                 b"  Split the script before this record: a script reads at most 4,096 bytes in all.\n",
-            );
+            )
         }
         Trouble::Room => {
-            print(b"  at the read buffer\n");
-            print(b"  Lend a read buffer for all bytes that the script reads.\n");
+            print(out, b"  at the read buffer\n")?;
+            print(
+                out,
+                b"  Lend a read buffer for all bytes that the script reads.\n",
+            )
         }
         Trouble::Deadline => {
-            print(b"  at the deadline\n");
-            print(b"  Ask for a shorter time: the sum with the clock has to fit 64 bits.\n");
+            print(out, b"  at the deadline\n")?;
+            print(
+                out,
+                b"  Ask for a shorter time: the sum with the clock has to fit 64 bits.\n",
+            )
         }
         Trouble::Turn => {
-            print(b"  at the calls\n");
-            print(b"  Ask for a list, complete it, and only then ask for the next.\n");
+            print(out, b"  at the calls\n")?;
+            print(
+                out,
+                b"  Ask for a list, complete it, and only then ask for the next.\n",
+            )
         }
     }
 }
 
-pub(super) fn print_refusal(refusal: Refusal, script: &[u8]) {
-    print(b"refused: ");
-    print_number(refusal::number(refusal) as u64);
-    print_name(refusal);
-    print(b"\n");
-    print_trouble(trouble_of(refusal, script));
+pub(super) fn print_refusal(
+    out: &mut impl Write,
+    refusal: Refusal,
+    script: &[u8],
+) -> io::Result<()> {
+    print(out, b"refused: ")?;
+    print_number(out, refusal::number(refusal) as u64)?;
+    print_name(out, refusal)?;
+    print(out, b"\n")?;
+    print_trouble(out, trouble_of(refusal, script))
 }

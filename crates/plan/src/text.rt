@@ -30,7 +30,7 @@ pub(super) enum Reading {
 }
 
 // What the next word has to be.
-#[derive(Drop)]
+#[derive(Clone, Copy)]
 enum Awaited {
     Any,
     Address,

@@ -17,7 +17,7 @@ mod walk;
 
 // How long lists may take, in microseconds: as long as they need; all of them so long from the transaction's acceptance on; each so
 // long for a byte.
-#[derive(Drop)]
+#[derive(Clone, Copy)]
 pub enum Deadline {
     None,
     Fixed(u64),
@@ -25,7 +25,7 @@ pub enum Deadline {
 }
 
 // What a call is told besides the script, the address and the record.
-#[derive(Drop)]
+#[derive(Clone, Copy)]
 pub struct Settings {
     pub deadline: Deadline,
 }
