@@ -3,6 +3,8 @@
 use crate::print::{print, print_answer};
 use bus_clear::run::{Ending, Terms, Told};
 use bus_clear::{Answer, BusClear, State};
+use std::io;
+use std::io::Write;
 
 const LAST_TIME: u64 = 0xFFFF_FFFF_FFFF_FFFF;
 
@@ -37,7 +39,13 @@ fn is_same(a: BusClear, b: BusClear) -> bool {
     state_number(a_state) == state_number(b_state)
 }
 
-fn step_row(pair: &[u8], state: State, wait: u64, time: u64) {
+fn step_row<W: Write>(
+    out: &mut W,
+    pair: &[u8],
+    state: State,
+    wait: u64,
+    time: u64,
+) -> io::Result<()> {
     let before = BusClear {
         state: state,
         wait: wait,
@@ -45,29 +53,36 @@ fn step_row(pair: &[u8], state: State, wait: u64, time: u64) {
     let stepped = bus_clear::step(before, true, time, true);
     let answer = stepped.answer;
     let after = stepped.next;
-    print_answer(b"clear step: ", pair, answer_number(answer));
+    print_answer(out, b"clear step: ", pair, answer_number(answer))?;
     if is_same(before, after) {
-        print(b", record kept\n");
+        print(out, b", record kept\n")
     } else {
-        print(b", record changed\n");
+        print(out, b", record changed\n")
     }
 }
 
-fn print_ending(told: Told) {
+fn print_ending<W: Write>(out: &mut W, told: Told) -> io::Result<()> {
     match told {
-        Told::NoRoom => print(b"no room"),
+        Told::NoRoom => print(out, b"no room"),
         Told::Ran(ending) => match ending {
-            Ending::Ready => print(b"ready"),
-            Ending::GivenUp => print(b"given up"),
-            Ending::Spent => print(b"polls spent"),
-            Ending::TapeOver => print(b"tape over"),
-            Ending::ClockRange => print(b"clock range"),
+            Ending::Ready => print(out, b"ready"),
+            Ending::GivenUp => print(out, b"given up"),
+            Ending::Spent => print(out, b"polls spent"),
+            Ending::TapeOver => print(out, b"tape over"),
+            Ending::ClockRange => print(out, b"clock range"),
         },
     }
 }
 
 // A run over one sample, with SDA high, or over none; it gives up at once.
-fn run_row(pair: &[u8], state: State, budget: usize, clocks: &[u64], levels: &[u8]) {
+fn run_row<W: Write>(
+    out: &mut W,
+    pair: &[u8],
+    state: State,
+    budget: usize,
+    clocks: &[u64],
+    levels: &[u8],
+) -> io::Result<()> {
     let mut changes = [0u8; 16];
     let before = BusClear {
         state: state,
@@ -82,48 +97,54 @@ fn run_row(pair: &[u8], state: State, budget: usize, clocks: &[u64], levels: &[u
     };
     let report = bus_clear::run::run(before, terms, clocks, levels, &mut changes);
     let told = report.answer;
-    print(b"clear run: ");
-    print(pair);
-    print(b": ");
-    print_ending(told);
-    print(b"\n");
+    print(out, b"clear run: ")?;
+    print(out, pair)?;
+    print(out, b": ")?;
+    print_ending(out, told)?;
+    print(out, b"\n")
 }
 
-pub(super) fn rows() {
-    step_row(b"ready before 13", State::Idle, LAST_TIME, LAST_TIME);
+pub(super) fn rows<W: Write>(out: &mut W) -> io::Result<()> {
+    step_row(out, b"ready before 13", State::Idle, LAST_TIME, LAST_TIME)?;
     step_row(
+        out,
         b"pending (before its wait) before 13",
         State::SendClock(9, false),
         LAST_TIME,
         LAST_TIME - 1,
-    );
+    )?;
     step_row(
+        out,
         b"13 before the pins move",
         State::SendClock(9, false),
         0,
         LAST_TIME - 4,
-    );
+    )?;
     let clocks = [10u64, LAST_TIME];
     let levels = [1u8, 1];
     run_row(
+        out,
         b"polls spent before tape over",
         State::Idle,
         0,
         &clocks[0..0],
         &levels[0..0],
-    );
+    )?;
     run_row(
+        out,
         b"ready before given up",
         State::Idle,
         1,
         &clocks[0..1],
         &levels[0..1],
-    );
+    )?;
     run_row(
+        out,
         b"13 before given up",
         State::SendClock(9, false),
         1,
         &clocks[1..2],
         &levels[1..2],
-    );
+    )?;
+    Ok(())
 }

@@ -4,6 +4,8 @@ ghost use Rattle.std.specs.Prelude.{◌≤◌};
 use crate::print::{print, print_answer, print_number};
 use crate::records;
 use outcome::Snapshot;
+use std::io;
+use std::io::Write;
 use transaction::Progress;
 
 // What the read buffer holds before.
@@ -36,21 +38,23 @@ fn at_most_16(n: usize) -> usize
     if n > 16 { 16 } else { n }
 }
 
-fn print_reason(reason: u8) {
+fn print_reason<W: Write>(out: &mut W, reason: u8) -> io::Result<()> {
     if reason != 0 {
-        print(b" with reason ");
-        print_number(reason);
+        print(out, b" with reason ")?;
+        print_number(out, reason)?;
     }
+    Ok(())
 }
 
-pub(super) fn ask(
+pub(super) fn ask<W: Write>(
+    out: &mut W,
     pair: &[u8],
     before: Progress,
     address: u32,
     script: &[u8],
     snapshot: Snapshot,
     room: usize,
-) {
+) -> io::Result<()> {
     let mut buffer = [UNTOUCHED; 16];
     let size = at_most_16(room);
     let completed = transaction::complete(
@@ -64,66 +68,78 @@ pub(super) fn ask(
     let answer = completed.answer;
     let after = completed.progress;
     let told = transaction::completion_answer(answer);
-    print_answer(b"completion: ", pair, told.number);
-    print_reason(told.reason);
-    records::print_record(before, after);
+    print_answer(out, b"completion: ", pair, told.number)?;
+    print_reason(out, told.reason)?;
+    records::print_record(out, before, after)?;
     if is_untouched(&buffer) {
-        print(b", buffer kept\n");
+        print(out, b", buffer kept\n")
     } else {
-        print(b", buffer changed\n");
+        print(out, b", buffer changed\n")
     }
 }
 
-pub(super) fn row(pair: &[u8], address: u32, script: &[u8]) {
+pub(super) fn row<W: Write>(
+    out: &mut W,
+    pair: &[u8],
+    address: u32,
+    script: &[u8],
+) -> io::Result<()> {
     ask(
+        out,
         pair,
         records::record(0, true, false),
         address,
         script,
         outcome::unpack(COMPLETED, [0; 8], 0),
         16,
-    );
+    )
 }
 
-pub(super) fn rows() {
+pub(super) fn rows<W: Write>(out: &mut W) -> io::Result<()> {
     ask(
+        out,
         b"6 (read total) before 5 (place)",
         records::record(9, true, false),
         41,
         b"\x01\x00\x03\xFF\xFF\x01",
         outcome::unpack(COMPLETED, [0; 8], 0),
         16,
-    );
+    )?;
     ask(
+        out,
         b"5 (place) before 12 (none outstanding)",
         records::record(9, false, false),
         41,
         b"\x01\x00\x03\x00\x02\x01",
         outcome::unpack(COMPLETED, [0; 8], 0),
         16,
-    );
+    )?;
     ask(
+        out,
         b"12 (none outstanding) before 7 (room)",
         records::record(0, false, false),
         41,
         b"\x01\x00\x03\x00\x02\x01",
         outcome::unpack(COMPLETED, [0; 8], 0),
         1,
-    );
+    )?;
     ask(
+        out,
         b"7 (room) before 9 (nack)",
         records::record(0, true, false),
         41,
         b"\x01\x00\x03\x00\x02\x01",
         outcome::unpack(NACK, [0; 8], 0),
         1,
-    );
+    )?;
     ask(
+        out,
         b"7 (room) before success",
         records::record(0, true, false),
         41,
         b"\x01\x00\x07\x00\x01\x00\xA0\x00\x02\x01",
         outcome::unpack(COMPLETED, [0; 8], 0),
         1,
-    );
+    )?;
+    Ok(())
 }

@@ -16,16 +16,19 @@ mod records;
 mod scripts;
 
 use scripts::Call;
+use std::io;
 
-fn main() {
-    building::rows();
-    scripts::rows(Call::Begin);
-    beginning::rows();
-    scripts::rows(Call::NextList);
-    handing::rows();
-    scripts::rows(Call::Completion);
-    completing::rows();
-    outcomes::rows();
-    abandoning::rows();
-    clearing::rows();
+fn main(rt: HostRuntime) -> io::Result<()> {
+    let mut out = rt.stdout();
+    building::rows(&mut out)?;
+    scripts::rows(&mut out, Call::Begin)?;
+    beginning::rows(&mut out)?;
+    scripts::rows(&mut out, Call::NextList)?;
+    handing::rows(&mut out)?;
+    scripts::rows(&mut out, Call::Completion)?;
+    completing::rows(&mut out)?;
+    outcomes::rows(&mut out)?;
+    abandoning::rows(&mut out)?;
+    clearing::rows(&mut out)?;
+    Ok(())
 }

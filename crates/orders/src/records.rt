@@ -1,6 +1,8 @@
 // Records made by hand, and what a call made of them.
 use crate::print::print;
 use outcome::Due;
+use std::io;
+use std::io::Write;
 use transaction::Progress;
 
 // A list is due at 1,000.
@@ -66,18 +68,19 @@ fn is_same(a: Progress, b: Progress) -> bool {
     is_same_due(a_fixed, b_fixed)
 }
 
-pub(super) fn print_record(before: Progress, after: Progress) {
+pub(super) fn print_record<W: Write>(
+    out: &mut W,
+    before: Progress,
+    after: Progress,
+) -> io::Result<()> {
     if is_same(before, after) {
-        print(b", record kept");
-        return;
+        return print(out, b", record kept");
     }
     if after.failed {
-        print(b", transaction ended");
-        return;
+        return print(out, b", transaction ended");
     }
     if after.outstanding {
-        print(b", still outstanding");
-        return;
+        return print(out, b", still outstanding");
     }
-    print(b", list completed");
+    print(out, b", list completed")
 }

@@ -4,8 +4,9 @@
 // the four; and the two together, with the poll to come and with the poll behind, in the same order.
 #![tactic(auto)]
 
-use libc::STDOUT_FILENO;
 use outcome::{Due, Outcome, Snapshot};
+use std::io;
+use std::io::Write;
 
 // START, WRITE 2, END: executed, and with the WRITE not yet done.
 const DONE: [u32; 8] = [0x8000_3000, 0x8000_0902, 0x2000, 0, 0, 0, 0, 0];
@@ -74,16 +75,17 @@ fn fill(line: &mut [u8; 36], bits: u8) {
     }
 }
 
-fn print(line: &[u8; 36]) {
-    let text: &[u8] = line;
-    io::write_all(STDOUT_FILENO, text);
+fn print<W: Write>(out: &mut W, line: &[u8; 36]) -> io::Result<()> {
+    out.write_all(line)
 }
 
-fn main() {
+fn main(rt: HostRuntime) -> io::Result<()> {
+    let mut out = rt.stdout();
     for bits in 0..256u32 {
         let mut line = [b' '; 36];
         line[35] = b'\n';
         fill(&mut line, bits as u8);
-        print(&line);
+        print(&mut out, &line)?;
     }
+    Ok(())
 }
