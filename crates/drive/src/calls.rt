@@ -3,11 +3,12 @@ use super::told::Told;
 use super::{plan, told};
 use list::CommandList;
 use outcome::Due;
+use std::io::{self, Write};
 use transaction::Progress;
 
 // Where the transaction stands: the record as the calls left it, how many lists were handed out, the words of the last one, how many
 // snapshots of it were seen, the last answer, and what has been told.
-#[derive(Drop)]
+#[derive(Clone, Copy)]
 struct Run {
     progress: Progress,
     waiting: bool,
@@ -41,7 +42,7 @@ fn blank() -> Progress {
     }
 }
 
-fn begin(fields: &[u64; 15], script: &[u8]) -> Run {
+fn begin(out: &mut impl Write, fields: &[u64; 15], script: &[u8]) -> io::Result<Run> {
     let begun = transaction::begin(
         blank(),
         plan::settings(fields),
@@ -54,7 +55,8 @@ fn begin(fields: &[u64; 15], script: &[u8]) -> Run {
     let answer = begun.answer;
     let number = transaction::begin_number(answer);
     let told = told::nothing(fields[plan::MODE] == 1);
-    Run {
+    let told = told::tell(out, told, number as u64)?;
+    Ok(Run {
         progress: begun.progress,
         waiting: false,
         over: number != 0 && number != CLEAR_FIRST,
@@ -63,25 +65,33 @@ fn begin(fields: &[u64; 15], script: &[u8]) -> Run {
         snapshots: 0,
         number: number,
         reason: 0,
-        told: told::tell(told, number as u64),
-    }
+        told: told,
+    })
 }
 
-fn tell_due(told: Told, due: Due) -> Told {
+fn tell_due(out: &mut impl Write, told: Told, due: Due) -> io::Result<Told> {
     match due {
-        Due::Never => told::tell(told::tell(told, 0), 0),
-        Due::At(time) => told::tell(told::tell(told, 1), time),
+        Due::Never => {
+            let kind = told::tell(out, told, 0)?;
+            told::tell(out, kind, 0)
+        }
+        Due::At(time) => {
+            let kind = told::tell(out, told, 1)?;
+            told::tell(out, kind, time)
+        }
     }
 }
 
-fn tell_list(before: Told, list: CommandList, due: Due) -> Told {
+fn tell_list(out: &mut impl Write, before: Told, list: CommandList, due: Due) -> io::Result<Told> {
     let words = list.words;
     let fifo = list.fifo;
-    let counted = told::tell(told::tell_words(before, words), list.count as u64);
-    tell_due(told::tell_bytes(counted, &fifo), due)
+    let worded = told::tell_words(out, before, words)?;
+    let counted = told::tell(out, worded, list.count as u64)?;
+    let filled = told::tell_bytes(out, counted, &fifo)?;
+    tell_due(out, filled, due)
 }
 
-fn hand_out(run: Run, fields: &[u64; 15], script: &[u8]) -> Run {
+fn hand_out(out: &mut impl Write, run: Run, fields: &[u64; 15], script: &[u8]) -> io::Result<Run> {
     let place = plan::place(run.lists % 0x1_0000 + 1, 0);
     let progress = run.progress;
     let handed = transaction::next_list(
@@ -97,7 +107,7 @@ fn hand_out(run: Run, fields: &[u64; 15], script: &[u8]) -> Run {
     let after = handed.progress;
     let due = after.due;
     let number = transaction::next_number(answer);
-    let told = told::tell(run.told, number as u64);
+    let told = told::tell(out, run.told, number as u64)?;
     let mut next = run;
     next.progress = after;
     next.number = number;
@@ -105,14 +115,14 @@ fn hand_out(run: Run, fields: &[u64; 15], script: &[u8]) -> Run {
     if number != 0 {
         next.over = true;
         next.told = told;
-        return next;
+        return Ok(next);
     }
     next.waiting = true;
     next.lists = run.lists % 0x1_0000 + 1;
     next.words = words;
     next.snapshots = 0;
-    next.told = tell_list(told, list, due);
-    next
+    next.told = tell_list(out, told, list, due)?;
+    Ok(next)
 }
 
 // The place of the next snapshot.
@@ -120,7 +130,13 @@ fn place_ahead(run: Run) -> u64 {
     plan::place(run.lists, run.snapshots % 8 + 1)
 }
 
-fn complete(run: Run, fields: &[u64; 15], script: &[u8], buffer: &mut [u8]) -> Run {
+fn complete(
+    out: &mut impl Write,
+    run: Run,
+    fields: &[u64; 15],
+    script: &[u8],
+    buffer: &mut [u8],
+) -> io::Result<Run> {
     let words = run.words;
     let progress = run.progress;
     let bytes = plan::received(fields, run.lists);
@@ -136,7 +152,7 @@ fn complete(run: Run, fields: &[u64; 15], script: &[u8], buffer: &mut [u8]) -> R
     let completion = completed.answer;
     let after = completed.progress;
     let answer = transaction::completion_answer(completion);
-    let told = told::tell(run.told, answer.number as u64);
+    let told = told::tell(out, run.told, answer.number as u64)?;
     let mut next = run;
     next.progress = after;
     next.snapshots = run.snapshots % 8 + 1;
@@ -144,11 +160,11 @@ fn complete(run: Run, fields: &[u64; 15], script: &[u8], buffer: &mut [u8]) -> R
     next.reason = answer.reason;
     next.waiting = answer.number == PENDING;
     next.over = answer.number != 0 && answer.number != PENDING;
-    next.told = told::tell(told, answer.reason as u64);
-    next
+    next.told = told::tell(out, told, answer.reason as u64)?;
+    Ok(next)
 }
 
-fn abandon(run: Run, fields: &[u64; 15]) -> Run {
+fn abandon(out: &mut impl Write, run: Run, fields: &[u64; 15]) -> io::Result<Run> {
     let words = run.words;
     let progress = run.progress;
     let snapshot = plan::snapshot(fields, place_ahead(run), words);
@@ -161,52 +177,68 @@ fn abandon(run: Run, fields: &[u64; 15]) -> Run {
     next.number = number;
     next.reason = 0;
     next.over = true;
-    next.told = told::tell(run.told, number as u64);
-    next
+    next.told = told::tell(out, run.told, number as u64)?;
+    Ok(next)
 }
 
 // One call: for a list, for its completion, or to give up.
-fn call(run: Run, fields: &[u64; 15], script: &[u8], buffer: &mut [u8]) -> Run {
+fn call(
+    out: &mut impl Write,
+    run: Run,
+    fields: &[u64; 15],
+    script: &[u8],
+    buffer: &mut [u8],
+) -> io::Result<Run> {
     if !run.waiting {
-        return hand_out(run, fields, script);
+        return hand_out(out, run, fields, script);
     }
     if plan::is_given_up(fields, place_ahead(run)) {
-        return abandon(run, fields);
+        return abandon(out, run, fields);
     }
-    complete(run, fields, script, buffer)
+    complete(out, run, fields, script, buffer)
 }
 
-fn drive(fields: &[u64; 15], script: &[u8], buffer: &mut [u8]) -> Run {
-    let mut run = begin(fields, script);
+fn drive(
+    out: &mut impl Write,
+    fields: &[u64; 15],
+    script: &[u8],
+    buffer: &mut [u8],
+) -> io::Result<Run> {
+    let mut run = begin(out, fields, script)?;
     for _ in 0..MOST_CALLS {
         if run.over {
-            return run;
+            return Ok(run);
         }
-        run = call(run, fields, script, buffer);
+        run = call(out, run, fields, script, buffer)?;
     }
-    run
+    Ok(run)
 }
 
 // The whole read buffer is told at the end.
-fn answer_with(fields: &[u64; 15], script: &[u8], buffer: &mut [u8]) {
-    let run = drive(fields, script, buffer);
-    let told = told::tell_bytes(run.told, buffer);
-    told::print_answer(told, run.number, run.reason, run.lists);
+fn answer_with(
+    out: &mut impl Write,
+    fields: &[u64; 15],
+    script: &[u8],
+    buffer: &mut [u8],
+) -> io::Result<()> {
+    let run = drive(out, fields, script, buffer)?;
+    let told = told::tell_bytes(out, run.told, buffer)?;
+    told::print_answer(out, told, run.number, run.reason, run.lists)
 }
 
-pub(super) fn answer(fields: &[u64; 15], script: &[u8]) {
+pub(super) fn answer(out: &mut impl Write, fields: &[u64; 15], script: &[u8]) -> io::Result<()> {
     let mut memory = [OLD; 4096];
     let room = plan::room(fields);
-    answer_with(fields, script, &mut memory[0..room]);
+    answer_with(out, fields, script, &mut memory[0..room])
 }
 
 // Begin alone, on every script of three bytes that starts with a given one.
-pub(super) fn answer_starts(fields: &[u64; 15], first: u8) {
+pub(super) fn answer_starts(out: &mut impl Write, fields: &[u64; 15], first: u8) -> io::Result<()> {
     let mut told = told::nothing(false);
     for rest in 0..0x1_0000usize {
         let script = [first, (rest / 256) as u8, (rest % 256) as u8];
-        let run = begin(fields, &script);
-        told = told::tell(told, run.number as u64);
+        let run = begin(out, fields, &script)?;
+        told = told::tell(out, told, run.number as u64)?;
     }
-    told::print_answer(told, 0, 0, 0);
+    told::print_answer(out, told, 0, 0, 0)
 }

@@ -12,7 +12,7 @@
 
 ghost use Rattle.std.specs.Prelude.{◌<◌};
 
-use libc::STDIN_FILENO;
+use std::io::{self, BufWriter, Read, Write};
 
 mod calls;
 mod plan;
@@ -20,7 +20,7 @@ mod told;
 
 // What a line has said so far: how many numbers have ended, the number at hand, how many bytes the script has, and whether half of its
 // next byte is there.
-#[derive(Drop)]
+#[derive(Clone, Copy)]
 struct Place {
     ended: usize,
     number: u64,
@@ -39,14 +39,14 @@ fn line_start() -> Place {
     }
 }
 
-fn answer(fields: &[u64; 15], script: &[u8]) {
+fn answer(out: &mut impl Write, fields: &[u64; 15], script: &[u8]) -> io::Result<()> {
     if fields[plan::MODE] == 2 {
         if script.len() > 0 {
-            calls::answer_starts(fields, script[0]);
+            calls::answer_starts(out, fields, script[0])?;
         }
-        return;
+        return Ok(());
     }
-    calls::answer(fields, script);
+    calls::answer(out, fields, script)
 }
 
 // The value of a hex digit, and 0 of anything else.
@@ -100,7 +100,13 @@ fn take_byte(fields: &mut [u64; 15], script: &mut [u8], place: Place, b: u8) -> 
     next
 }
 
-fn answer_all(fields: &mut [u64; 15], script: &mut [u8], at_first: Place, text: &[u8]) -> Place {
+fn answer_all(
+    out: &mut impl Write,
+    fields: &mut [u64; 15],
+    script: &mut [u8],
+    at_first: Place,
+    text: &[u8],
+) -> io::Result<Place> {
     let mut place = at_first;
     let mut i = 0;
     while i < text.len() {
@@ -109,26 +115,29 @@ fn answer_all(fields: &mut [u64; 15], script: &mut [u8], at_first: Place, text: 
         if b == b'\n' {
             let length = place.length;
             if length <= script.len() {
-                answer(fields, &script[0..length]);
+                answer(out, fields, &script[0..length])?;
             }
             place = line_start();
         } else {
             place = take_byte(fields, script, place, b);
         }
     }
-    place
+    Ok(place)
 }
 
-fn main() {
+fn main(rt: HostRuntime) -> io::Result<()> {
+    let mut input = rt.stdin();
+    let mut out = BufWriter::new(rt.alloc(), rt.stdout())?;
     let mut fields = [0u64; 15];
     let mut script = [0u8; 4352];
     let mut place = line_start();
-    let mut text = io::large_buffer();
-    for _ in 0..65536usize {
-        let n = io::read_full(STDIN_FILENO, &mut text);
+    let mut text = [0u8; 65536];
+    for _ in 0..u64::MAX {
+        let n = input.read(&mut text)?;
         if n == 0 {
-            return;
+            break;
         }
-        place = answer_all(&mut fields, &mut script, place, &text[..n]);
+        place = answer_all(&mut out, &mut fields, &mut script, place, &text[..n])?;
     }
+    out.flush()
 }

@@ -4,7 +4,7 @@
 
 ghost use Rattle.std.specs.Prelude.{◌<◌};
 
-use libc::{STDIN_FILENO, STDOUT_FILENO};
+use std::io::{self, BufWriter, Read, Write};
 
 mod clears;
 mod leaves;
@@ -38,9 +38,8 @@ fn answered(fields: &[u64; 16]) -> u64 {
     }
 }
 
-fn print_answer(fields: &[u64; 16]) {
-    io::print_hex(STDOUT_FILENO, answered(fields), 16);
-    io::write_all(STDOUT_FILENO, b"\n");
+fn print_answer(out: &mut impl Write, fields: &[u64; 16]) -> io::Result<()> {
+    writeln!(out, "{:016x}", answered(fields))
 }
 
 // The value of a hex digit, and 0 of anything else.
@@ -83,7 +82,12 @@ fn take_byte(fields: &mut [u64; 16], place: Place, b: u8) -> Place {
     }
 }
 
-fn answer_all(fields: &mut [u64; 16], at_first: Place, text: &[u8]) -> Place {
+fn answer_all(
+    out: &mut impl Write,
+    fields: &mut [u64; 16],
+    at_first: Place,
+    text: &[u8],
+) -> io::Result<Place> {
     let mut place = at_first;
     let mut i = 0;
     while i < text.len() {
@@ -91,28 +95,31 @@ fn answer_all(fields: &mut [u64; 16], at_first: Place, text: &[u8]) -> Place {
         i += 1;
         place = take_byte(fields, place, b);
         if b == b'\n' {
-            print_answer(fields);
+            print_answer(out, fields)?;
             place = Place {
                 ended: 0,
                 number: 0,
             };
         }
     }
-    place
+    Ok(place)
 }
 
-fn main() {
+fn main(rt: HostRuntime) -> io::Result<()> {
+    let mut input = rt.stdin();
+    let mut out = BufWriter::new(rt.alloc(), rt.stdout())?;
     let mut fields = [0u64; 16];
     let mut place = Place {
         ended: 0,
         number: 0,
     };
-    let mut text = io::large_buffer();
-    for _ in 0..65536usize {
-        let n = io::read_full(STDIN_FILENO, &mut text);
+    let mut text = [0u8; 65536];
+    for _ in 0..u64::MAX {
+        let n = input.read(&mut text)?;
         if n == 0 {
-            return;
+            break;
         }
-        place = answer_all(&mut fields, place, &text[..n]);
+        place = answer_all(&mut out, &mut fields, place, &text[..n])?;
     }
+    out.flush()
 }
