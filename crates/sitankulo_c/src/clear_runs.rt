@@ -20,5 +20,7 @@ pub extern "C" fn sitankulo_clear_run(
         (run_call (decoded_of clear.old) (terms_of pins reset start limit budget) clocks.now levels.now changes.old report.old)
         result clear.old clear.new changes.old changes.new report.old report.new }
 {
-    sitankulo::clear_runs::sitankulo_clear_run(clear, pins, reset, start, limit, budget, clocks, levels, changes, report)
+    sitankulo::clear_runs::sitankulo_clear_run(
+        clear, pins, reset, start, limit, budget, clocks, levels, changes, report,
+    )
 }

@@ -22,7 +22,9 @@ pub extern "C" fn sitankulo_begin(
         × (state.new ≡ cond (goes_ahead result) (renewed state.old
         (begun_for deadline duration address script.now room busy time).progress) state.old) }
 {
-    sitankulo::transactions::sitankulo_begin(state, deadline, duration, address, script, room, busy, time)
+    sitankulo::transactions::sitankulo_begin(
+        state, deadline, duration, address, script, room, busy, time,
+    )
 }
 
 // The next list.
@@ -50,7 +52,9 @@ pub extern "C" fn sitankulo_next(
         (handed_for state.old deadline duration address script.now time).list.count)
         fifo.old) }
 {
-    sitankulo::transactions::sitankulo_next(state, deadline, duration, address, script, time, words, fifo)
+    sitankulo::transactions::sitankulo_next(
+        state, deadline, duration, address, script, time, words, fifo,
+    )
 }
 
 // What became of the outstanding list.
@@ -75,7 +79,9 @@ pub extern "C" fn sitankulo_complete(
         (landed_for state.old address script.now bits commands.now time received.now
         buffer.old) buffer.old) }
 {
-    sitankulo::transactions::sitankulo_complete(state, address, script, bits, commands, time, received, buffer)
+    sitankulo::transactions::sitankulo_complete(
+        state, address, script, bits, commands, time, received, buffer,
+    )
 }
 
 // Gives the transaction up.
