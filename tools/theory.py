@@ -23,7 +23,7 @@ PROOFS_OF_A_FUNCTION = ('Proof.antt', 'Answers.antt', 'Invariants.antt')
 
 FUNCTION = re.compile(
     sources.CODE_SKIPPED
-    + r'|(?P<head>(?:#\[unsafe\(no_mangle\)\]\s*)?(?:\bpub(?:\([a-z]+\))?\s+)?(?:extern\s+"C"\s+)?\bfn\s+\w+)'
+    + r'|(?P<head>(?:#\[(?:[^\[\]]|\[[^\[\]]*\])*\]\s*)*(?:\bpub(?:\([a-z]+\))?\s+)?(?:extern\s+"C"\s+)?\bfn\s+\w+)'
     + r'|(?P<brace>[{}])',
     re.S)
 ERROR = re.compile(r'^(?P<file>\S+?):\d+:\d+: error: `(?P<name>[^`]+)`')
