@@ -13,13 +13,12 @@ import sys
 import tempfile
 from pathlib import Path
 
+import edits
 import kit
 import sources
 
 # The crate above all others, which reaches every library.
 TOP_CRATE = 'demands'
-# The files that prove a function, in a folder of its own.
-PROOFS_OF_A_FUNCTION = ('Proof.antt', 'Answers.antt', 'Invariants.antt')
 
 FUNCTION = re.compile(
     sources.CODE_SKIPPED
@@ -61,7 +60,7 @@ def lay_out(root, folder):
             if file.suffix == '.rt' and crate / 'src' in file.parents:
                 there.parent.mkdir(parents=True, exist_ok=True)
                 there.write_text(types_alone(sources.read(file)), encoding='utf-8')
-            elif file.suffix == '.antt' and file.name not in PROOFS_OF_A_FUNCTION:
+            elif file.suffix == '.antt' and not edits.PROOF_OF_A_FUNCTION.fullmatch(str(file.relative_to(crate))):
                 there.parent.mkdir(parents=True, exist_ok=True)
                 shutil.copy(file, there)
 
