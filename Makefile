@@ -67,4 +67,4 @@ fmt:
 	@for crate in crates/*; do (cd $$crate && rt fmt) || exit; done
 
 clean:
-	rm -rf target host/*/target tools/__pycache__
+	rm -rf target crates/*/out host/*/target tools/__pycache__
