@@ -28,7 +28,7 @@ def roots(root, reader):
         if 'extern "C"' in function.text:
             yield str(file.relative_to(reader.crates)), function.text
     for file, each in statements.theorems(root, reader):
-        if not each.name.endswith('-refuted'):
+        if not each.name.endswith('_refuted'):
             yield file, each.statement()
 
 

@@ -63,9 +63,12 @@ def normal(text):
 
 
 def tokens(text):
-    """The names in a text; of `handing.Listed` the parts too, of `.fifo`, a field, none."""
+    """The names in a text; of `handing.Listed` the parts too, of `s.fifo` and `(f s).fifo` not the field."""
     found = {token for token in TOKEN.findall(text) if not token.startswith('.')}
-    return found | {part for token in found for part in token.split('.') if part}
+    for token in list(found):
+        head, *rest = token.split('.')
+        found |= {part for part in [head, *rest] if part and (part is head or not part[0].islower())}
+    return found
 
 
 def imports(text):
