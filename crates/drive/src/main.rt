@@ -12,7 +12,7 @@
 
 ghost use Rattle.std.specs.Prelude.{◌<◌};
 
-use std::io::{self, BufWriter, Read, Write};
+use std::io::{self, Read, Write};
 
 mod calls;
 mod plan;
@@ -127,7 +127,7 @@ fn answer_all(
 
 fn main(rt: HostRuntime) -> io::Result<()> {
     let mut input = rt.stdin();
-    let mut out = BufWriter::new(rt.alloc(), rt.stdout())?;
+    let mut out = rt.stdout();
     let mut fields = [0u64; 15];
     let mut script = [0u8; 4352];
     let mut place = line_start();
@@ -139,5 +139,5 @@ fn main(rt: HostRuntime) -> io::Result<()> {
         }
         place = answer_all(&mut out, &mut fields, &mut script, place, &text[..n])?;
     }
-    out.flush()
+    Ok(())
 }

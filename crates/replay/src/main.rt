@@ -4,7 +4,7 @@
 
 ghost use Rattle.std.specs.Prelude.{◌<◌};
 
-use std::io::{self, BufWriter, Read, Write};
+use std::io::{self, Read, Write};
 
 mod clears;
 mod leaves;
@@ -107,7 +107,7 @@ fn answer_all(
 
 fn main(rt: HostRuntime) -> io::Result<()> {
     let mut input = rt.stdin();
-    let mut out = BufWriter::new(rt.alloc(), rt.stdout())?;
+    let mut out = rt.stdout();
     let mut fields = [0u64; 16];
     let mut place = Place {
         ended: 0,
@@ -121,5 +121,5 @@ fn main(rt: HostRuntime) -> io::Result<()> {
         }
         place = answer_all(&mut out, &mut fields, place, &text[..n])?;
     }
-    out.flush()
+    Ok(())
 }
