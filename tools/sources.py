@@ -146,11 +146,9 @@ def every_item(text):
 
 
 def function_at(text, line):
-    """The path of the function of a file of code in which a line stands; empty where it stands in none."""
-    for kind, _, path, (start, _, end), _ in every_item(text):
-        if kind == 'fn' and line_at(text, start) <= line <= line_at(text, end):
-            return path
-    return []
+    """The path of the function of a file of code to which a line belongs: the first that ends there or below, since its attributes stand
+    above it."""
+    return next((path for kind, _, path, (_, _, end), _ in every_item(text) if kind == 'fn' and line <= line_at(text, end)), [])
 
 
 def public_items(text, kind):

@@ -16,6 +16,8 @@ pub fn cut() -> u8
 
 mod inner {
     impl Cursor {
+        #[tactic(auto, unfolding(
+            crate::specs::Cuts::cut))]
         fn next(self) -> u8 {
             7
         }
@@ -68,7 +70,9 @@ class Edits(Repository):
     def test_a_goal_without_an_answer(self):
         said = 'it is not proved that what the function ensures holds when it returns (`returns-then-a`); the facts known there'
         self.assertEqual(self.fact(f'note: src/lib.rt:5:5: {said}'), ('chunks::cut returns-then-a', False))
-        self.assertEqual(self.fact(f'note: src/lib.rt:12:9: {said}'), ('chunks::inner::Cursor::next returns-then-a', False))
+        for line in (10, 14):
+            self.assertEqual(self.fact(f'note: src/lib.rt:{line}:9: {said}'), ('chunks::inner::Cursor::next returns-then-a', False))
+        self.assertEqual(self.fact(f'note: src/lib.rt:30:9: {said}'), ('chunks returns-then-a', False))
         self.assertEqual(self.fact(f'note: src/far/away.rt:6:1: {said}'), ('chunks::far::away::cut returns-then-a', False))
 
     def test_a_goal_whose_name_is_cut_short(self):
