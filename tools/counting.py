@@ -12,6 +12,8 @@ CRATE_PROVED = re.compile(r'rt: \w+ (?:proved$|is kept: an earlier run on this m
 EDIT_REFUSED = re.compile(r'rt: must-fail \S+: refused, as it must be')
 # On its line `rt: ok` it counts edits that it could not try, and passes all the same.
 EDITS_BAD = re.compile(r'rt: ok;.*?; must-fail edits: [^;]*?(\d+) bad')
+# What a proof assumes is named above its verdict: of the kit's C functions a program may reach those of libc and os.
+ASSUMED = re.compile(r'axioms (?!(?:libc|os): )\w+: (?!none reached)|logic=proved .* foreign=')
 PROGRAM_RAN = re.compile(r'rt: \w+ ran, and wrote what its file stdout has')
 CARGO_RESULT = re.compile(r'test result: \w+\. (\d+) passed; (\d+) failed; (\d+) ignored; \d+ measured; (\d+) filtered out')
 COMPARED = re.compile(r'compared (\d+) answers')
@@ -45,10 +47,11 @@ def matching(pattern, lines):
 
 def of_proofs(lines):
     """`rt ci`: its last line counts crates and must-fail edits; a program that is proved is counted once more where it ran well. Edits
-    that it calls bad have failed."""
+    that it calls bad have failed, and so has a proof that assumes what it may not."""
     count = last_line(lines)
     ran = matching(PROGRAM_RAN, lines)
-    return Count(count.passed + ran, count.failed + summed(EDITS_BAD, lines), Counter({
+    bad = summed(EDITS_BAD, lines) + matching(ASSUMED, lines)
+    return Count(count.passed + ran, count.failed + bad, Counter({
         'crates proved': matching(CRATE_PROVED, lines), 'programs run': ran, 'edits refused by rt ci': matching(EDIT_REFUSED, lines)}))
 
 

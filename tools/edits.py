@@ -130,7 +130,7 @@ def fact_of(crate, line, folder):
 def judged(edit, what, folder):
     """Whether an edit of the crate in a folder was refused as it must be, by what `rt` said of it, and the words for it."""
     refused = REFUSED.fullmatch(what)
-    if not refused or 'names what the edit took away' in (refused['only'] or ''):
+    if not refused or refused['only']:
         return False, what or 'NOT TRIED'
     fact, is_cut = fact_of(edit.crate, refused['first'], folder)
     if not fact or not (edit.fact == fact or is_cut and edit.fact.startswith(fact)):

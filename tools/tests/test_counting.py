@@ -38,6 +38,14 @@ class Counting(unittest.TestCase):
         self.assert_counts(counting.of_proofs([well, '140 passed, 0 failed']), 140, 0, crates_proved=0, edits_refused_by_rt_ci=0, programs_run=0)
         self.assert_counts(counting.of_proofs([bad, '140 passed, 0 failed']), 140, 12, crates_proved=0, edits_refused_by_rt_ci=0, programs_run=0)
 
+    def test_a_proof_that_assumes_what_it_may_not_has_failed(self):
+        told = {'crates_proved': 0, 'edits_refused_by_rt_ci': 0, 'programs_run': 0}
+        well = ['axioms libc: libc::write (1 of the 128 declared)', 'axioms os: os::c::rattle_errno (1 of the 22 declared)',
+                'axioms std: none reached of the 2 declared', 'logic=proved functions=8 axioms=2 target=x86_64-unknown-linux-gnu', '1 passed, 0 failed']
+        self.assert_counts(counting.of_proofs(well), 1, 0, **told)
+        for line in ('axioms std: std::f (1 of the 2 declared)', 'axioms low: low::f (1 of the 1 declared)', 'logic=proved functions=1 foreign=low::f sum=1'):
+            self.assert_counts(counting.of_proofs([line, *well]), 1, 1, **told)
+
     def test_a_tool_test_that_fails_or_is_skipped_has_not_passed(self):
         self.assert_counts(counting.of_unittest(['Ran 15 tests in 1.2s', '', 'OK']), 15, 0, tests_of_the_tools=15)
         self.assert_counts(counting.of_unittest(['Ran 15 tests in 1.2s', 'FAILED (failures=1, errors=2, skipped=3)']), 9, 6, tests_of_the_tools=9)

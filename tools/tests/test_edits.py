@@ -93,8 +93,11 @@ class Edits(Repository):
     def test_an_edit_is_refused_at_its_fact(self):
         said = './proofs/cut/Answers.antt:9:1: error: `returns`: no proof of that'
         self.assertEqual(self.judged(f'refused, as it must be: {said}'), (True, 'refused at chunks::cut returns'))
+
+    def test_an_edit_that_is_refused_only_by_a_limit_has_failed(self):
         limit = '(only by a limit of the prover, which gave no verdict, so this says less of the contract: choose a change that it refuses sooner)'
-        self.assertEqual(self.judged(f'refused, as it must be {limit}: {said}'), (True, 'refused at chunks::cut returns'))
+        said = './proofs/cut/Answers.antt:9:1: error: `returns`: no proof of that'
+        self.assertFalse(self.judged(f'refused, as it must be {limit}: {said}')[0])
 
     def test_an_edit_that_is_refused_elsewhere_has_failed(self):
         said = 'refused, as it must be: ./proofs/cut/Answers.antt:9:1: error: `returns-2`: no proof of that'

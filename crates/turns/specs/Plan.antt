@@ -23,6 +23,6 @@ unfoldable pub lists_of : ℕ → ℕ → List Step → List CommandList
 lists_of f address [] = []
 lists_of f address (s ∷ ss) = list_of (built_of f address s).answer (built_of f address s).list ++ lists_of f address ss
 
--- "Empty read_step are dropped before neighbours are compared"
+-- "Empty reads are dropped before neighbours are compared"
 unfoldable pub planned : ℕ → ℕ → ℕ → List Operation → List CommandList
 planned f c address os = lists_of f address (steps_from c nothing (kept os))

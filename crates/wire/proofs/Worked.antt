@@ -1,4 +1,4 @@
--- Numbers in bytes, worked: "words in slices are big_endian".
+-- Numbers in bytes, worked: "words in slices are big-endian".
 -- Assumes nothing.
 use mathlib.Core.Path.{◌≡◌, refl}
 use mathlib.Core.List.{[], ◌∷◌, ◌++◌}
