@@ -168,12 +168,12 @@ def edits_name_their_facts(root):
 
 
 def exported_calls_are_attacked(root):
-    """Each call for C has an edit that breaks a fact of its own proof."""
-    attacked = {part for crate in sources.crate_folders(root) for edit in edits.edits_of(root, crate.name)
-                for part in edit.fact.partition(' ')[0].split('::')}
+    """Each call for C, and the call of its name that it makes, has an edit that breaks a fact of its own proof."""
+    attacked = {edit.fact.partition(' ')[0] for crate in sources.crate_folders(root) for edit in edits.edits_of(root, crate.name)}
+    calls = list(sources.public_calls(root))
+    exported = {function.path[-1] for _, _, function in calls if 'extern "C"' in function.text}
     return [f'{place(root, file, function.line)}: no edit breaks a fact of `{name}`'
-            for file, name, function in sources.public_calls(root)
-            if 'extern "C"' in function.text and function.path[-1] not in attacked]
+            for file, name, function in calls if function.path[-1] in exported and name not in attacked]
 
 
 # ---- layout

@@ -438,8 +438,13 @@ class ExportedCallsAreAttacked(Repository):
         self.write('crates/calls/must-fail/one.edit', 'fact: calls::inside returns\n')
         self.assert_reports(self.rule, 'crates/calls/src/lib.rt:2: no edit breaks a fact of `calls::begin`')
 
+    def test_reports_the_call_that_it_makes_without_one(self):
+        self.write('crates/calls/must-fail/one.edit', 'fact: calls::begin returns\n')
+        self.write('crates/below/src/lib.rt', 'pub fn begin() -> u32 {\n    0\n}\n')
+        self.assert_reports(self.rule, 'crates/below/src/lib.rt:1: no edit breaks a fact of `below::begin`')
+
     def test_passes_a_call_with_one(self):
-        self.write('crates/calls/must-fail/one.edit', 'fact: below::begin returns\n')
+        self.write('crates/calls/must-fail/one.edit', 'fact: calls::begin returns\n')
         self.assert_passes(self.rule)
 
 

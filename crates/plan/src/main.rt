@@ -149,6 +149,7 @@ fn show(out: &mut impl Write, asked: Asked, script: &[u8]) -> io::Result<()> {
     }
 }
 
+// What a text comes to, or the line of its first fault.
 fn answer_text(out: &mut impl Write, text: &[u8]) -> io::Result<()> {
     let mut script = [0u8; 8192];
     let reading = text::read_text(text, &mut script);

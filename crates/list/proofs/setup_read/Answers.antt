@@ -38,18 +38,14 @@ read_words-words-requires c =
 
 pub returns-then-start : goal.returns-then-start
 returns-then-start c =
-    let s = c in
-    let e = s in
-    rw (read_listed 32 _ e.if-address-gt-LAST_ADDRESS.false _ _ _ _ (omega arith) (within (goal.at.returns-then-start c).Else-n-read_limit))
-    (c.with_list.ensures _ _ (s.read_words-words.ensures _)
-    (rw (c.opened_fifo.ensures, s.if-start.true, read_opened_fifo) (sets_padded 32 (_ ∷ []) (omega arith)))
-    (rw (s.if-start.true, read_opened_fifo)))
+    rw (read_listed 32 _ c.if-address-gt-LAST_ADDRESS.false _ _ _ _ (omega arith) (within (goal.at.returns-then-start c).Else-n-read_limit))
+    (c.with_list.ensures _ _ (c.read_words-words.ensures _)
+    (rw (c.opened_fifo.ensures, c.if-start.true, read_opened_fifo) (sets_padded 32 (_ ∷ []) (omega arith)))
+    (rw (c.if-start.true, read_opened_fifo)))
 
 pub returns : goal.returns
 returns c =
-    let s = c in
-    let e = s in
-    rw (read_listed 32 _ e.if-address-gt-LAST_ADDRESS.false _ _ _ _ (omega arith) (within (goal.at.returns c).Else-n-read_limit))
-    (c.with_list-2.ensures _ _ (s.read_words-words.ensures _)
-    (rw (s.if-start.false, read_more_fifo) (sets_padded 32 [] (omega arith)))
-    (rw (s.if-start.false, read_more_fifo)))
+    rw (read_listed 32 _ c.if-address-gt-LAST_ADDRESS.false _ _ _ _ (omega arith) (within (goal.at.returns c).Else-n-read_limit))
+    (c.with_list-2.ensures _ _ (c.read_words-words.ensures _)
+    (rw (c.if-start.false, read_more_fifo) (sets_padded 32 [] (omega arith)))
+    (rw (c.if-start.false, read_more_fifo)))

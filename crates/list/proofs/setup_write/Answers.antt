@@ -42,13 +42,11 @@ load_fifo-fifo-requires c = omega (arith, opened_fits (goal.at.load_fifo-fifo-re
 
 pub returns-then-start : goal.returns-then-start
 returns-then-start c =
-    let s = c in
-    let e = s in
-    rw (write_listed 32 _ e.if-address-gt-LAST_ADDRESS.false _ _ _ (within (goal.at.returns-then-start c).Else-n-write_limit))
-    (c.with_list.ensures _ _ (s.write_words-words.ensures _ _ refl)
-    (rw (c.load_fifo-fifo.ensures, c.opened_fifo.ensures, s.if-start.true, write_opened_fifo)
+    rw (write_listed 32 _ c.if-address-gt-LAST_ADDRESS.false _ _ _ (within (goal.at.returns-then-start c).Else-n-write_limit))
+    (c.with_list.ensures _ _ (c.write_words-words.ensures _ _ refl)
+    (rw (c.load_fifo-fifo.ensures, c.opened_fifo.ensures, c.if-start.true, write_opened_fifo)
     (sets_padded 32 _ (opened_fits (goal.at.returns-then-start c).Then-start)))
-    (rw (s.if-start.true, write_opened_fifo) (add-one _)))
+    (rw (c.if-start.true, write_opened_fifo) (add-one _)))
 
 pub write_words-words-requires : goal.write_words-words-requires
 write_words-words-requires c = fits c
@@ -58,9 +56,8 @@ load_fifo-requires c = omega (arith, fits (goal.at.load_fifo-requires c).Else-n-
 
 pub returns : goal.returns
 returns c =
-    let s = c in
-    let e = s in
-    rw (write_listed 32 _ e.if-address-gt-LAST_ADDRESS.false _ _ _ (within (goal.at.returns c).Else-n-write_limit))
-    (c.with_list-2.ensures _ _ (s.write_words-words.ensures _ _ refl)
-    (rw (c.load_fifo.ensures, s.if-start.false, write_more_fifo) (sets_padded 32 _ (fits (goal.at.returns c).Else-n-write_limit)))
-    (rw (s.if-start.false, write_more_fifo)))
+    let at = (goal.at.returns c).Else-n-write_limit in
+    rw (write_listed 32 _ c.if-address-gt-LAST_ADDRESS.false _ _ _ (within at))
+    (c.with_list-2.ensures _ _ (c.write_words-words.ensures _ _ refl)
+    (rw (c.load_fifo.ensures, c.if-start.false, write_more_fifo) (sets_padded 32 _ (fits at)))
+    (rw (c.if-start.false, write_more_fifo)))

@@ -21,14 +21,18 @@ whole c = c.loop-length.invariant.2 ∙ ahead_all (records_of (drop 3 c.args.scr
 
 pub returns-then-total-gt-MOST : goal.returns-then-total-gt-MOST
 returns-then-total-gt-MOST c =
-    sym (rw (lt-ltb 4096 c.loop-length.total c.if-total-gt-MOST.true) at ((here (goal.at.returns-then-total-gt-MOST c).After-next_record-step).ends c.in-End.is)) ∙ whole (goal.at.returns-then-total-gt-MOST c).After-next_record-step
+    let at = (goal.at.returns-then-total-gt-MOST c).After-next_record-step in
+    sym (rw (lt-ltb 4096 c.loop-length.total c.if-total-gt-MOST.true) at ((here at).ends c.in-End.is)) ∙ whole at
 
 pub returns-in-End : goal.returns-in-End
 returns-in-End c =
-    sym (rw (le-ltb 4096 c.loop-length.total c.if-total-gt-MOST.false) at ((here (goal.at.returns-in-End c).After-next_record-step).ends c.in-End.is)) ∙ whole (goal.at.returns-in-End c).After-next_record-step
+    let at = (goal.at.returns-in-End c).After-next_record-step in
+    sym (rw (le-ltb 4096 c.loop-length.total c.if-total-gt-MOST.false) at ((here at).ends c.in-End.is)) ∙ whole at
 
 pub returns-in-Bad : goal.returns-in-Bad
-returns-in-Bad c = sym ((here (goal.at.returns-in-Bad c).After-next_record-step).is_bad c.in-Bad.is) ∙ whole (goal.at.returns-in-Bad c).After-next_record-step
+returns-in-Bad c =
+    let at = (goal.at.returns-in-Bad c).After-next_record-step in
+    sym ((here at).is_bad c.in-Bad.is) ∙ whole at
 
 pub loop-length-smaller-in-Write : goal.loop-length-smaller-in-Write
 loop-length-smaller-in-Write c =

@@ -9,10 +9,9 @@ use Rattle.wire.proofs.put_long.Goals as goal
 
 pub returns : goal.returns
 returns c =
-    let first = c in
-    let args = first.args in
+    let args = c.args in
     let high = four_bytes (args.number / 0x100000000) in
     let low = four_bytes (args.number % 0x100000000) in
     c.put_word-2.ensures
-    ∙ ap (λ (l : List ℕ). sets l (args.at + 4) low) first.put_word.ensures
+    ∙ ap (λ (l : List ℕ). sets l (args.at + 4) low) c.put_word.ensures
     ∙ sets_append high low args.out.now args.at

@@ -18,7 +18,6 @@ returns-then-out-at c =
 
 pub returns : goal.returns
 returns c =
-    let tested = c in
-    let args = tested.args in
+    let args = c.args in
     c.put_long.ensures
-    ∙ put args.at 8 (args.at + 8) refl args.out.now (time_bytes args.time) refl (omega (arith, tested.if-out-lt-TIME.false, tested.if-out-at.false))
+    ∙ put args.at 8 (args.at + 8) refl args.out.now (time_bytes args.time) refl (omega (arith, c.if-out-lt-TIME.false, c.if-out-at.false))

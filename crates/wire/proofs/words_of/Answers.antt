@@ -8,10 +8,9 @@ returns-then-bytes-lt-WORDS c = rw (lt-leb 32 (length c.args.bytes.now) c.if-byt
 
 pub returns : goal.returns
 returns c =
-    let before = c in
     rw (
-      le-leb 32 (length before.args.bytes.now) before.if-bytes-lt-WORDS.false,
-      before.word_at.ensures,
+      le-leb 32 (length c.args.bytes.now) c.if-bytes-lt-WORDS.false,
+      c.word_at.ensures,
       c.word_at-2.ensures,
       c.word_at-3.ensures,
       c.word_at-4.ensures,

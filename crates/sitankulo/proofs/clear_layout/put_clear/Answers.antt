@@ -9,6 +9,5 @@ bounds-memory-1 c = simp length-set (search rules)
 
 pub returns : goal.returns
 returns c =
-    let start = c in
     rw (← c.state_byte.ensures, ← c.clocks_byte.ensures)
-    (clear_put start.args.memory.now _ _ _ start.args.clear.wait start.requires c.put_time.ensures)
+    (clear_put c.args.memory.now _ _ _ c.args.clear.wait c.requires c.put_time.ensures)

@@ -4,12 +4,10 @@ use Rattle.sitankulo.proofs.clear_runs.put_report.Goals as goal
 
 pub returns : goal.returns
 returns c =
-    let start = c in
     rw (← c.flag.ensures)
-    (report_put start.args.memory.now _ _ start.args.polls start.args.changes c.flag.result start.requires
+    (report_put c.args.memory.now _ _ c.args.polls c.args.changes c.flag.result c.requires
     c.put_time.ensures c.put_time-2.ensures)
 
 pub shape_of-memory : goal.shape_of-memory
 shape_of-memory c =
-    let start = c in
-    report_length start.args.memory.now _ start.args.polls start.args.changes start.args.reset start.requires (returns c)
+    report_length c.args.memory.now _ c.args.polls c.args.changes c.args.reset c.requires (returns c)

@@ -13,18 +13,15 @@ use Rattle.sitankulo.proofs.records.encode.Goals as goal
 pub returns : goal.returns
 unfolding laid
 returns c =
-    let timed = c in
-    let flagged = timed in
-    let start = flagged.before.before in
+    let start = c.before.before in
     let state = start.args.state.now in
-    let flags = flagged.flags_of.result in
+    let flags = c.flags_of.result in
     let long : 25 ≤ length (set state 0 flags) = rw length-set start.requires in
-    let bytes = times_bytes (start.args.p.place ∷ timed.time_in.result ∷ timed.time_in-2.result ∷ []) in
-    encoded start.args.p state _ flags _ _ start.requires flagged.flags_of.ensures timed.time_in.ensures timed.time_in-2.ensures
+    let bytes = times_bytes (start.args.p.place ∷ c.time_in.result ∷ c.time_in-2.result ∷ []) in
+    encoded start.args.p state _ flags _ _ start.requires c.flags_of.ensures c.time_in.ensures c.time_in-2.ensures
     (part_put (set state 0 flags) _ bytes 1 24 long c.put_times.ensures)
 
 pub shape_of-state : goal.shape_of-state
 unfolding record_bytes
 shape_of-state c =
-    let start = c in
-    ap length (returns c) ∙ length-paste start.args.state.now 0 (record_bytes start.args.p) 25 start.requires (omega arith)
+    ap length (returns c) ∙ length-paste c.args.state.now 0 (record_bytes c.args.p) 25 c.requires (omega arith)

@@ -39,7 +39,8 @@ snapshot_of-requires c = omega (arith, c.if-commands-ne-WORDS.false)
 
 pub returns-then-not-does_go_ahead : goal.returns-then-not-does_go_ahead
 returns-then-not-does_go_ahead c =
-    abandon_stays _ _ _ (fit (goal.at.returns-then-not-does_go_ahead c).After-abandon-abandoned) (ours (goal.at.returns-then-not-does_go_ahead c).After-abandon-abandoned) _ (made (goal.at.returns-then-not-does_go_ahead c).After-abandon-abandoned) _ c.abandon_number-number.ensures
+    let at = (goal.at.returns-then-not-does_go_ahead c).After-abandon-abandoned in
+    abandon_stays _ _ _ (fit at) (ours at) _ (made at) _ c.abandon_number-number.ensures
     (sym c.does_go_ahead.ensures ∙ c.if-not-does_go_ahead.true)
 
 pub encode-requires : goal.encode-requires
@@ -48,6 +49,7 @@ encode-requires c =
 
 pub returns : goal.returns
 returns c =
-    abandon_ahead _ _ _ (fit (goal.at.returns c).After-abandon-abandoned) (ours (goal.at.returns c).After-abandon-abandoned) _ (made (goal.at.returns c).After-abandon-abandoned) _ c.abandon_number-number.ensures
+    let at = (goal.at.returns c).After-abandon-abandoned in
+    abandon_ahead _ _ _ (fit at) (ours at) _ (made at) _ c.abandon_number-number.ensures
     (sym c.does_go_ahead.ensures ∙ c.if-not-does_go_ahead.false)
     _ c.encode.ensures

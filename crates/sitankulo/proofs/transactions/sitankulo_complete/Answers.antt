@@ -58,7 +58,8 @@ snapshot_of-requires c = omega (arith, c.if-commands-ne-WORDS.false)
 
 pub returns-then-not-does_tell : goal.returns-then-not-does_tell
 returns-then-not-does_tell c =
-    complete_silent _ _ _ _ _ _ (fit (goal.at.returns-then-not-does_tell c).After-complete-completed) (ours (goal.at.returns-then-not-does_tell c).After-complete-completed) _ (made (goal.at.returns-then-not-does_tell c).After-complete-completed) _ c.completion_answer-answer.ensures (not_landed _ _ _ _ _ _ _ _) _ (lands (goal.at.returns-then-not-does_tell c).After-complete-completed)
+    let at = (goal.at.returns-then-not-does_tell c).After-complete-completed in
+    complete_silent _ _ _ _ _ _ (fit at) (ours at) _ (made at) _ c.completion_answer-answer.ensures (not_landed _ _ _ _ _ _ _ _) _ (lands at)
     (sym c.does_tell.ensures ∙ c.if-not-does_tell.true)
 
 pub encode-requires : goal.encode-requires
@@ -67,6 +68,7 @@ encode-requires c =
 
 pub returns : goal.returns
 returns c =
-    complete_told_lem _ _ _ _ _ _ (fit (goal.at.returns c).After-complete-completed) (ours (goal.at.returns c).After-complete-completed) _ (made (goal.at.returns c).After-complete-completed) _ c.completion_answer-answer.ensures (not_landed _ _ _ _ _ _ _ _) _ (lands (goal.at.returns c).After-complete-completed)
+    let at = (goal.at.returns c).After-complete-completed in
+    complete_told_lem _ _ _ _ _ _ (fit at) (ours at) _ (made at) _ c.completion_answer-answer.ensures (not_landed _ _ _ _ _ _ _ _) _ (lands at)
     (sym c.does_tell.ensures ∙ c.if-not-does_tell.false)
     _ c.encode.ensures

@@ -47,16 +47,19 @@ returns-then-not-held c =
 
 pub returns-then-number-ne0 : goal.returns-then-number-ne0
 returns-then-number-ne0 c =
-    next_none _ _ _ _ _ _ (known (goal.at.returns-then-number-ne0 c).After-next_number-number) (ours (goal.at.returns-then-number-ne0 c).After-next_number-number) _ (made (goal.at.returns-then-number-ne0 c).After-next_number-number) _ c.next_number-number.ensures c.if-number-ne0.true
+    let at = (goal.at.returns-then-number-ne0 c).After-next_number-number in
+    next_none _ _ _ _ _ _ (known at) (ours at) _ (made at) _ c.next_number-number.ensures c.if-number-ne0.true
 
 pub returns-then-words-lt-WORDS : goal.returns-then-words-lt-WORDS
 returns-then-words-lt-WORDS c =
-    next_wordless _ _ _ _ _ _ (known (goal.at.returns-then-words-lt-WORDS c).After-next_number-number) (ours (goal.at.returns-then-words-lt-WORDS c).After-next_number-number) _ (made (goal.at.returns-then-words-lt-WORDS c).After-next_number-number) _ c.next_number-number.ensures c.if-number-ne0.false
+    let at = (goal.at.returns-then-words-lt-WORDS c).After-next_number-number in
+    next_wordless _ _ _ _ _ _ (known at) (ours at) _ (made at) _ c.next_number-number.ensures c.if-number-ne0.false
     c.if-words-lt-WORDS.true
 
 pub returns-then-fifo-count : goal.returns-then-fifo-count
 returns-then-fifo-count c =
-    next_roomless _ _ _ _ _ _ (known (goal.at.returns-then-fifo-count c).After-next_number-number) (ours (goal.at.returns-then-fifo-count c).After-next_number-number) _ (made (goal.at.returns-then-fifo-count c).After-next_number-number) _ c.next_number-number.ensures c.if-number-ne0.false
+    let at = (goal.at.returns-then-fifo-count c).After-next_number-number in
+    next_roomless _ _ _ _ _ _ (known at) (ours at) _ (made at) _ c.next_number-number.ensures c.if-number-ne0.false
     c.if-words-lt-WORDS.false c.if-fifo-count.true
 
 pub encode-requires : goal.encode-requires
@@ -77,6 +80,7 @@ overflow_mul-result c =
 
 pub returns : goal.returns
 returns c =
-    next_listed _ _ _ _ c.args.words.now c.args.fifo.now (known (goal.at.returns c).After-next_number-number) (ours (goal.at.returns c).After-next_number-number) _ (made (goal.at.returns c).After-next_number-number) _ c.next_number-number.ensures c.if-number-ne0.false
-    c.if-words-lt-WORDS.false c.if-fifo-count.false (few (goal.at.returns c).After-next_number-number) _ _ _
+    let at = (goal.at.returns c).After-next_number-number in
+    next_listed _ _ _ _ c.args.words.now c.args.fifo.now (known at) (ours at) _ (made at) _ c.next_number-number.ensures c.if-number-ne0.false
+    c.if-words-lt-WORDS.false c.if-fifo-count.false (few at) _ _ _
     c.encode.ensures c.put_words.ensures c.put_bytes.ensures

@@ -5,5 +5,4 @@ use Rattle.sitankulo.proofs.transactions.snapshot_of.Goals as goal
 
 pub returns : goal.returns
 returns c =
-    let start = c in
-    c.unpack.ensures ∙ rw (words_there start.args.commands.now _ start.requires c.words_of.ensures)
+    c.unpack.ensures ∙ rw (words_there c.args.commands.now _ c.requires c.words_of.ensures)

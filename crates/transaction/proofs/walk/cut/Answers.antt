@@ -6,11 +6,10 @@ use Rattle.transaction.proofs.walk.cut.Goals as goal
 
 pub returns-then-length-le-CHUNK : goal.returns-then-length-le-CHUNK
 returns-then-length-le-CHUNK c =
-    let start = c in
-    let args = start.args in (
-      only_start args.length args.at c.if-length-le-CHUNK.true start.requires,
-      only_size args.length args.at c.if-length-le-CHUNK.true start.requires,
-      only_flags args.length args.at c.if-length-le-CHUNK.true start.requires args.flags,
+    let args = c.args in (
+      only_start args.length args.at c.if-length-le-CHUNK.true c.requires,
+      only_size args.length args.at c.if-length-le-CHUNK.true c.requires,
+      only_flags args.length args.at c.if-length-le-CHUNK.true c.requires args.flags,
     )
 
 pub overflow_sub-length : goal.overflow_sub-length
