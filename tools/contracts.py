@@ -6,6 +6,7 @@ import sources
 from statements import file_of_module
 
 PARAMETER = re.compile(r"\b(\w+)\s*:\s*&\s*(?:'\w+\s+)?mut\b")
+RESULT = re.compile(r'->\s*(?P<lent>&)?')
 OPENS, CLOSES = '({[', ')}]'
 
 
@@ -106,9 +107,9 @@ def equations(function, file, reader):
 
 
 def owed(function):
-    """The left sides that a contract has to settle: the result, and what each lent memory holds in the end."""
+    """The left sides that a contract has to settle: the result, or what it refers to, and what each lent memory holds in the end."""
     head = re.split(r'\b(?:ghost|requires|ensures)\b', function.text)[0]
-    result = ['result'] if '->' in head else []
+    result = ['result.now' if RESULT.search(head)['lent'] else 'result'] if '->' in head else []
     return result + [f'{name}.new' for name in PARAMETER.findall(head)]
 
 
@@ -120,7 +121,7 @@ def weaknesses(function, file, reader):
     for left in owed(function):
         if left not in equal:
             yield f'no equation for `{left}`'
-        elif '.new' in equal[left] or (left == 'result' and 'result' in sources.tokens(equal[left])):
+        elif '.new' in equal[left] or (left.startswith('result') and 'result' in sources.tokens(equal[left])):
             yield f'`{left}` is said by what is left itself: `{equal[left]}`'
     for left in equal:
         if left not in owed(function):

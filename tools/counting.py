@@ -97,7 +97,7 @@ def of_fuzzing(lines):
 
 def of_statements(lines):
     """The lines of docs/STATEMENTS.txt, by kind."""
-    names = {'call': 'public calls', 'theorem': 'theorems', 'definition': 'definitions'}
+    names = {'call': 'public calls', 'impl': 'impls of traits', 'theorem': 'theorems', 'definition': 'definitions'}
     kinds = Counter(line.split()[1] for line in lines if line and not line.startswith('#'))
     return Counter({names[kind]: number for kind, number in kinds.items() if kind in names})
 

@@ -29,9 +29,11 @@ def place(root, file, line):
 # ---- contracts
 
 def every_pub_fn_has_ensures(root):
-    """A `pub fn` promises something: it has an `ensures`."""
-    return [f'{place(root, file, function.line)}: `{name}` has no ensures'
-            for file, name, function in sources.public_calls(root) if 'ensures' not in dict(function.clauses)]
+    """A `pub fn` promises something: it has an `ensures`. An `impl` of a trait says by a ghost member what it gives."""
+    return ([f'{place(root, file, function.line)}: `{name}` has no ensures'
+             for file, name, function in sources.public_calls(root) if 'ensures' not in dict(function.clauses)]
+            + [f'{place(root, file, each.line)}: `{name}` has no ghost member'
+               for file, name, each in sources.public_impls(root) if not each.clauses])
 
 
 def no_requires_at_the_boundary(root):
@@ -53,7 +55,7 @@ def contracts_as_promised(root):
     """A contract speaks of the definitions that its row in docs/PROMISES.md names, which stand in the file named there."""
     reader, rows = statements.Reader(root), promised_calls(root)
     problems = []
-    for file, name, function in sources.public_calls(root):
+    for file, name, function in [*sources.public_calls(root), *sources.public_impls(root)]:
         if f'`{name}`' not in rows:
             continue
         path = str(file.relative_to(root / 'crates'))
@@ -67,7 +69,8 @@ def contracts_as_promised(root):
             problems.append(f'{row}: `{name}` names no definition with its file')
         problems += [f'{place(root, file, function.line)}: `{name}` does not speak of `{each}`, as {PROMISES} has it'
                      for each in definitions if each not in spoken]
-        problems += [f'{row}: `{each}` is not to be found in {named}' for each in definitions if each not in {**own, **brought}]
+        problems += [f'{row}: `{each}` is not to be found in {named}' for each in definitions
+                     if each not in {**own, **brought} and not re.search(rf'\bghost {each}:', read(root / 'crates' / named))]
     return problems
 
 
@@ -75,7 +78,8 @@ def contracts_as_promised(root):
 
 def what_exists(root):
     """The place of each public call and theorem, by the first cell of its row in docs/PROMISES.md."""
-    places = {f'`{name}`': place(root, file, function.line) for file, name, function in sources.public_calls(root)}
+    places = {f'`{name}`': place(root, file, function.line)
+              for file, name, function in [*sources.public_calls(root), *sources.public_impls(root)]}
     for file in sources.theorem_files(root):
         for each in sources.declarations(read(file)):
             if each.is_theorem():

@@ -15,12 +15,15 @@ ITEM = re.compile(
     + r'|\bghost\s+use\b[^;]*;'
     + r'|(?P<pub>\bpub\s+)?(?:\bextern\s+"C"\s+)?\bfn\s+(?P<fn>\w+)'
     + r'|(?P<shown>\bpub\s+)?\b(?:struct|enum)\s+(?P<type>\w+)'
-    + r'|\bimpl\b\s*(?:<[^>]*>\s*)?(?P<impl>\w+)[^{]*\{'
+    + r'|\bimpl\b\s*(?:<(?P<parameters>[^>]*)>\s*)?(?P<impl>[^{;]*?)\s*(?:\bwhere\b[^{]*)?\{'
+    + r'|(?P<open>\bpub\s+)?\btrait\s+(?P<trait>\w+)[^{]*\{'
     + r'|\bmod\s+(?P<mod>\w+)\s*\{'
     + r'|(?P<brace>[{}])',
     re.S)
 CLAUSE_OR_BODY = re.compile(
-    CODE_SKIPPED + r'|\b(?P<clause>ghost|requires|ensures)\b\*?\s*\w*\s*:?\s*\{|(?P<body>\{)', re.S)
+    CODE_SKIPPED + r'|\[(?:[^\[\]]|\[[^\[\]]*\])*\]'
+    + r'|\b(?P<clause>ghost|requires|ensures)\b\*?\s*\w*\s*:?\s*\{|(?P<body>\{)|(?P<none>;)', re.S)
+MEMBER = re.compile(CODE_SKIPPED + r'|\bghost\s+(?P<name>\w+)\s*=\s*\{', re.S)
 CODE_COMMENT = re.compile(r'//[^\n]*|/\*.*?\*/', re.S)
 
 USE = re.compile(r'^(?:pub |ghost )?use\s+([^\s;{]+?)(?:\.\{([^}]*)\}|\s+as\s+(\S+?))?;?[ \t]*$', re.M)
@@ -88,7 +91,7 @@ def imports(text):
 
 @dataclass
 class Function:
-    """A `pub fn`: its path within the crate, and its text up to the body, without comments."""
+    """A `pub fn`, or an `impl` of a trait: its path within the crate, and its text up to the body, without comments."""
     line: int
     path: list
     text: str
@@ -114,16 +117,42 @@ def clauses_and_body(text, position):
             return clauses, len(text), len(text)
         if found['body']:
             return clauses, found.start(), closing(text, found.start(), CODE_BRACES)
+        if found['none']:
+            return clauses, found.start(), found.end()
         position = found.end()
         if found['clause']:
             position = closing(text, found.end() - 1, ANTT_BRACES)
             clauses.append((found['clause'], without_comments(text[found.end():position - 1]).strip()))
 
 
+def implemented(head):
+    """The trait, if there is one, and the type of an `impl`, by what stands behind the word."""
+    *of, type_ = re.split(r'\sfor\s', head, maxsplit=1)
+    return re.sub(r'^(?:\w+::)+', '', ''.join(''.join(of).split())), ''.join(type_.split())
+
+
+def joined(name, parameters):
+    """How `rt` calls the `impl` of a type or a trait: the names in it, but lifetimes and the `impl`'s own parameters, as one word."""
+    own = set(re.findall(r"(?:^|,)\s*(?:const\s+)?(\w+)", parameters or ''))
+    return ''.join(word[0].upper() + word[1:] for word in re.findall(r"(?<!')\b\w+\b(?!::)", name) if word not in own)
+
+
+def members(text, start):
+    """The ghost members of an `impl`, as clauses, and where the last one ends."""
+    clauses, ends = [], start
+    stop = closing(text, text.rindex('{', 0, start), CODE_BRACES)
+    for found in MEMBER.finditer(text, start, stop):
+        if found['name']:
+            ends = closing(text, found.end() - 1, ANTT_BRACES)
+            clauses.append(('ensures', without_comments(text[found.end():ends - 1]).strip()))
+    return clauses, ends
+
+
 def every_item(text):
-    """Yields (kind, whether it is `pub`, path, (start, body, end), clauses) of each function, struct and enum, in order; kind is 'fn' or
-    'type'. What is declared inside a function is passed over."""
-    around, position = [], 0
+    """Yields (kind, whether it is `pub`, path, (start, body, end), clauses) of each function, struct and enum, in order, and of each `impl` of
+    a trait; kind is 'fn', 'type' or 'impl'. What a trait's `impl` promises is its ghost members. A trait's own functions are as `pub` as it
+    is. What is declared inside a function is passed over."""
+    around, shown, position = [], [False], 0
     while True:
         found = ITEM.search(text, position)
         if not found:
@@ -131,18 +160,27 @@ def every_item(text):
         position = found.end()
         if found['fn']:
             clauses, body, position = clauses_and_body(text, position)
-            yield 'fn', bool(found['pub']), around + [found['fn']], (found.start(), body, position), clauses
+            yield 'fn', bool(found['pub']) or shown[-1], around + [found['fn']], (found.start(), body, position), clauses
         elif found['type']:
             opening = re.compile(r'[{;]').search(text, position)
             if opening:
                 position = closing(text, opening.start(), CODE_BRACES) if opening.group() == '{' else opening.end()
             yield 'type', bool(found['shown']), around + [found['type']], (found.start(), position, position), []
-        elif found['impl'] or found['mod']:
-            around.append(found['impl'] or found['mod'])
+        elif found['impl']:
+            of, type_ = implemented(found['impl'])
+            if of:
+                clauses, ends = members(text, found.end())
+                yield 'impl', True, around + [type_, of], (found.start(), ends, ends), clauses
+            around.append(joined(type_, found['parameters']) + joined(of, found['parameters']))
+            shown.append(False)
+        elif found['trait'] or found['mod']:
+            around.append(found['trait'] or found['mod'])
+            shown.append(bool(found['open']))
         elif found['brace'] == '{':
             position = closing(text, found.start(), CODE_BRACES)
         elif found['brace'] == '}' and around:
             around.pop()
+            shown.pop()
 
 
 def function_at(text, line):
@@ -152,7 +190,7 @@ def function_at(text, line):
 
 
 def public_items(text, kind):
-    """The `pub` functions or types of a file of code."""
+    """The `pub` functions or types of a file of code, or its `impl`s of traits."""
     for found, is_pub, path, (start, body, _), clauses in every_item(text):
         if found == kind and is_pub:
             yield Function(line_at(text, start), path, CODE_COMMENT.sub(' ', text[start:body]), clauses)
@@ -171,6 +209,16 @@ def public_calls(root):
     for crate, file, module in code_files(root):
         for function in public_items(read(file), 'fn'):
             yield file, '::'.join([crate, *module, *function.path]), function
+
+
+def public_impls(root):
+    """Yields (file, name, impl) of each trait that a library has for a type, its name as `crate::Type::Trait`. How contracts see a value of
+    a type, its `Model`, is no call."""
+    for crate, file, module in code_files(root):
+        if (root / 'crates' / crate / 'src' / 'lib.rt').is_file():
+            for each in public_items(read(file), 'impl'):
+                if each.path[-1] != 'Model':
+                    yield file, '::'.join([crate, *module, *each.path]), each
 
 
 # ---- antt

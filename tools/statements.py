@@ -66,7 +66,7 @@ def calls_and_types(root):
     for crate, file, module in sources.code_files(root):
         text = sources.read(file)
         brought = sources.imports(text)
-        for kind, called in (('fn', 'call'), ('type', 'type')):
+        for kind, called in (('fn', 'call'), ('type', 'type'), ('impl', 'impl')):
             for item in sources.public_items(text, kind):
                 name = '::'.join([*module, *item.path])
                 yield Statement(crate, called, str(file.relative_to(root / 'crates' / crate)), name, hashed(item.text, brought))

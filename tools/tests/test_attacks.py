@@ -64,7 +64,7 @@ class Attacks(Copy):
 
     def test_a_contract_that_says_nothing(self):
         path = 'crates/sitankulo/src/inspecting.rt'
-        self.replace(path, 'result ≡ inspect_answer words.now fifo.now phase', 'result ≡ result')
+        self.replace(path, '{ result ≡ inspect_answer words.now fifo.now phase }', '{ result ≡ result }')
         [problem] = rules.contracts_are_equations(self.root)
         self.assertRegex(problem, r'sitankulo_inspect`: `result` is said by what is left itself: `result`$')
         self.assertEqual(len(rules.statements_pinned(self.root)), 2)

@@ -75,6 +75,11 @@ class Edits(Repository):
         self.assertEqual(self.fact(f'note: src/lib.rt:30:9: {said}'), ('chunks returns-then-a', False))
         self.assertEqual(self.fact(f'note: src/far/away.rt:6:1: {said}'), ('chunks::far::away::cut returns-then-a', False))
 
+    def test_a_goal_in_other_words(self):
+        self.assertEqual(self.fact('note: src/lib.rt:5:5: `search` found no proof (`slice_bounds-a-end`); `search` gave up at one of its limits'),
+                         ('chunks::cut slice_bounds-a-end', False))
+        self.assertEqual(self.fact('note: src/lib.rt:5:5: index 8 is out of bounds of an array of 8 (`bounds-a-8`)'), ('chunks::cut bounds-a-8', False))
+
     def test_a_goal_whose_name_is_cut_short(self):
         line = f'note: src/lib.rt:5:5: it is not proved that {"much " * 19}holds (`returns-then-a-long-name'[:160]
         fact, is_cut = self.fact(line)

@@ -90,6 +90,54 @@ pub fn last() -> u8
                          ['chunks::Cursor::next', 'chunks::last'])
 
 
+    def test_a_traits_functions_and_what_implements_it(self):
+        self.write('crates/chunks/src/lib.rt', '''\
+pub trait Sized2 {
+    ghost size_in: { Self → ℕ };
+
+    fn size(&self, of: [u8; 8]) -> usize
+        ensures { result ≡ size_in self.now };
+
+    fn unsaid(&self) -> [[u8; 2]; 3];
+}
+
+trait Private {
+    fn unsaid(&self);
+}
+
+impl Sized2 for Piece {
+    ghost size_in = { piece_size };
+
+    fn size(&self, of: [u8; 8]) -> usize {
+        self.0
+    }
+}
+
+impl<T: Sized2> Sized2 for Result<T, Piece> {
+    fn size(&self, of: [u8; 8]) -> usize {
+        0
+    }
+}
+
+impl fmt::Display for Piece {
+    fn fmt<W: fmt::Write>(&self, f: &mut fmt::Formatter<W>) -> fmt::Result {
+        f.write_str("piece")
+    }
+}
+
+pub fn last() {}
+''')
+        self.write('crates/show/src/main.rt', 'impl Sized2 for Shown {}\n\nfn main() {}\n')
+        self.assert_reports(
+            self.rule,
+            'crates/chunks/src/lib.rt:7: `chunks::Sized2::unsaid` has no ensures',
+            'crates/chunks/src/lib.rt:34: `chunks::last` has no ensures',
+            'crates/chunks/src/lib.rt:22: `chunks::Result<T,Piece>::Sized2` has no ghost member',
+            'crates/chunks/src/lib.rt:28: `chunks::Piece::Display` has no ghost member')
+        self.assertEqual([(name, each.clauses) for _, name, each in sources.public_impls(self.root)][0],
+                         ('chunks::Piece::Sized2', [('ensures', 'piece_size')]))
+
+
 class NoRequiresAtTheBoundary(Repository):
     rule = staticmethod(rules.no_requires_at_the_boundary)
 
@@ -164,6 +212,9 @@ pub record Vague (report : ℕ) : Type 0 where
         self.contract('(left: u64, out: &mut [u8]) -> u64', 'left ≡ left')
         self.assert_weak('no equation for `result`', 'no equation for `out.new`',
                          'an equation for `left`, which is neither the result nor what lent memory holds in the end')
+        self.contract("(left: u64) -> &'static [u8]", 'left ≡ left')
+        self.assert_weak('no equation for `result.now`',
+                         'an equation for `left`, which is neither the result nor what lent memory holds in the end')
 
     def test_reports_what_is_no_equation(self):
         self.contract('(left: u64) -> u64', '(result ≡ left) × (result ≤ 8)')
@@ -182,6 +233,8 @@ pub record Vague (report : ℕ) : Type 0 where
 
     def test_passes_equations_in_each_form(self):
         self.contract('(left: u64) -> u64', 'result ≡ piece_of left')
+        self.assert_passes(self.rule)
+        self.contract("(left: u64) -> &'static [u8]", 'result.now ≡ bytes_of left')
         self.assert_passes(self.rule)
         self.contract('(out: &mut [u8])', 'out.new ≡ cond (leb 8 (length out.old)) [] out.old')
         self.assert_passes(self.rule)

@@ -12,6 +12,8 @@ use lib.Seq.{sets, drop-cons}
 use lib.Dec.{eqb}
 use Rattle.bus_clear.specs.declared.Pins.{Pins}
 use Rattle.bus_clear.specs.declared.BusClear.{BusClear}
+use Rattle.bus_clear.specs.declared.Answer.{Answer}
+use Rattle.bus_clear.specs.declared.Answer.TheVariants as answer
 use Rattle.bus_clear.specs.declared.Stepped.{Stepped}
 use Rattle.bus_clear.specs.Pins.{Change, changes_of, change_byte, change_bytes}
 use Rattle.bus_clear.specs.Clear.{step_of}
@@ -94,3 +96,9 @@ pub laid_next :
 laid_next memory at p cs ds e =
     let as_long : length (map change_byte cs) ≡ length cs = simp length-map in
     rw (e, ← as_long, map-append change_byte cs ds) (sets_append (map change_byte cs) (map change_byte ds) memory at)
+
+-- a poll that is not pending changes no pin
+pub made_none : (a : Answer) → ((p : Pins) → a ≡ answer.Pending p → ⊥) → made_by a ≡ []
+made_none answer.Ready h = refl
+made_none (answer.Pending p) h = absurd (h p refl)
+made_none answer.ClockRange h = refl

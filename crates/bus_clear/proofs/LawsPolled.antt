@@ -1,11 +1,12 @@
 -- Laws of a whole run, for citing: its polls stay on the tape, its changes are those of its polls, and what is reported by the room.
 -- Assumes nothing.
-use Prim.Native.Nat.{ℕ, zero, suc, ◌+◌, ◌≤◌, ◌<◌}
+use Rattle.std.specs.Prelude.{Some}
+use Prim.Native.Nat.{ℕ, zero, suc, ◌+◌, ◌*◌, ◌≤◌, ◌<◌}
 use native.Mathlib.Omega.{arith}
 use native.Mathlib.Nat.{zero-add}
 use mathlib.Core.Path.{◌≡◌, refl, sym, ap, ◌∙◌}
 use mathlib.Core.Bool.{Bool, true, false, ◌&&◌}
-use mathlib.Core.List.{List, [], ◌∷◌, ◌++◌, map, map-append}
+use mathlib.Core.List.{List, [], ◌∷◌, ◌++◌, map, map-append, append-nil}
 use lib.ListN.{length, length-append, length-map}
 use lib.Seq.{sets}
 use borrow.Author.Tests.{le-leb, lt-leb}
@@ -16,10 +17,10 @@ use Rattle.bus_clear.specs.declared.Pins.{Pins}
 use Rattle.bus_clear.specs.declared.Pins.TheVariants.{SclHighSdaHigh}
 use Rattle.bus_clear.specs.declared.run.Terms.{Terms}
 use Rattle.bus_clear.specs.declared.run.Polls.{Polls}
-use Rattle.bus_clear.specs.declared.run.Told.TheVariants.{Ran}
 use Rattle.bus_clear.specs.Pins.{Change, changes_of, change_byte, change_bytes, listed_with}
 use Rattle.bus_clear.specs.Clear.{step_of}
 use Rattle.bus_clear.specs.Runs.{Sample, tape_of, Polled, exceeded, answered, poll_all, polled_over, counted_of, made_in, releases, all_changes, run_fits, run_roomless, run_report, laid}
+use Rattle.bus_clear.proofs.LawsRuns.{few_changes}
 use Rattle.bus_clear.proofs.LawsLaying.{sets_append}
 
 pub tape_within : (clocks levels : List ℕ) → (length (tape_of clocks levels) ≤ length clocks) × (length (tape_of clocks levels) ≤ length levels)
@@ -42,6 +43,15 @@ module _ (t : Terms) (s : Sample) (tape : List Sample) (c : BusClear) where
   answered_within (answer.Pending p) false more h = omega arith
   answered_within answer.ClockRange late more h = omega arith
 
+  answered_few :
+      (a : Answer) (late : Bool) (more : Polled)
+      → length more.changes ≤ 2 * more.polls
+      → length (answered a c next late more).changes ≤ 2 * (answered a c next late more).polls
+  answered_few answer.Ready late more h = omega arith
+  answered_few (answer.Pending p) true more h = simp append-nil (omega (arith, few_changes p))
+  answered_few (answer.Pending p) false more h = omega (arith, length-append (changes_of p) more.changes, few_changes p)
+  answered_few answer.ClockRange late more h = omega arith
+
   answered_made :
       (a : Answer) (late : Bool) (more : Polled)
       → (step_of c t.pins s.clock s.sda).answer ≡ a
@@ -60,6 +70,17 @@ polls_within t (suc budget) [] c = omega arith
 polls_within t (suc budget) (s ∷ tape) c =
     let r = step_of c t.pins s.clock s.sda in
     answered_within t s tape c r.answer (exceeded t s.clock) (poll_all t budget tape r.next) (polls_within t budget tape r.next)
+
+-- a run makes at most two pin changes a poll
+pub polled_few :
+    (t : Terms) (budget : ℕ) (tape : List Sample) (c : BusClear)
+    → length (poll_all t budget tape c).changes ≤ 2 * (poll_all t budget tape c).polls
+unfolding poll_all
+polled_few t zero tape c = omega arith
+polled_few t (suc budget) [] c = omega arith
+polled_few t (suc budget) (s ∷ tape) c =
+    let r = step_of c t.pins s.clock s.sda in
+    answered_few t s tape c r.answer (exceeded t s.clock) (poll_all t budget tape r.next) (polled_few t budget tape r.next)
 
 pub polled_made :
     (t : Terms) (budget : ℕ) (tape : List Sample) (c : BusClear)
@@ -97,7 +118,7 @@ module _ (t : Terms) (clocks levels memory : List ℕ) (c : BusClear) where
         → p ≡ counted_of polled
         → end ≡ length polled.changes + released
         → reset ≡ (t.pins && t.reset)
-        → record { answer = Ran p.ending; polls = p.polls; clear = p.clear; changes = end; reset = reset }
+        → record { answer = Some p.ending; polls = p.polls; clear = p.clear; changes = end; reset = reset }
         ≡ run_report t c polled (length memory)
     reported p end reset e f r = rw (e, f, r, ← all_changes_lem, yes)
 

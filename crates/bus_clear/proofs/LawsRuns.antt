@@ -1,14 +1,16 @@
 -- Laws of a run, for citing: what is left of it after k polls and m pin changes, by what the next poll answers.
 -- Assumes nothing.
-use Prim.Native.Nat.{ℕ, suc, ◌+◌, ◌-◌, ◌≤◌, ◌<◌}
+use Prim.Native.Nat.{ℕ, suc, ◌+◌, ◌-◌, ◌≤◌, ◌<◌, min}
 use native.Mathlib.Omega.{arith}
 use native.Mathlib.Numerals.{add-one}
 use mathlib.Core.Path.{◌≡◌, refl}
+use mathlib.Core.Logic.{◌⊎◌, inl, inr}
 use mathlib.Core.Bool.{true, false, not}
 use mathlib.Core.List.{List, [], append-nil}
-use lib.ListN.{length, get_or, drop, length-append, drop_of_length-le}
+use lib.ListN.{length, get_or, drop, length-append, length-map, drop_of_length-le}
 use lib.Seq.{drop-cons}
 use lib.Dec.{eqb}
+use Rattle.std.proofs.lemmas.Bool.{cases_lt}
 use Rattle.bus_clear.specs.declared.Pins.{Pins}
 use Rattle.bus_clear.specs.declared.Pins.TheVariants.{Still, SclLow, SclHigh, SdaHigh, SdaLowSclHigh, SclHighSdaLow, SclLowSdaHigh, SclHighSdaHigh}
 use Rattle.bus_clear.specs.declared.BusClear.{BusClear}
@@ -19,7 +21,7 @@ use Rattle.bus_clear.specs.declared.run.Terms.{Terms}
 use Rattle.bus_clear.specs.declared.run.Polls.{Polls}
 use Rattle.bus_clear.specs.declared.run.Ending.{Ending}
 use Rattle.bus_clear.specs.declared.run.Ending.TheVariants.{Ready, GivenUp, Spent, TapeOver, ClockRange}
-use Rattle.bus_clear.specs.Pins.{changes_of}
+use Rattle.bus_clear.specs.Pins.{changes_of, change_bytes}
 use Rattle.bus_clear.specs.Clear.{step_of}
 use Rattle.bus_clear.specs.Runs.{tape_of, Polled, exceeded, answered, poll_all, counted_of}
 
@@ -61,6 +63,14 @@ module _ (t : Terms) (clocks levels : List ℕ) where
       pub levels_over : k < length clocks → length levels ≤ k → plus k m (counted_of (left c k)) ≡ counts TapeOver k c m
       unfolding tape_of
       levels_over g h = no_tape (rw (drop-cons clocks k 0 g, drop_of_length-le levels h))
+
+      -- whichever of the two is over first
+      pub tape_over : min (length clocks) (length levels) ≤ k → plus k m (counted_of (left c k)) ≡ counts TapeOver k c m
+      tape_over h = go (cases_lt k (length clocks))
+        where
+          go : (k < length clocks) ⊎ (length clocks ≤ k) → plus k m (counted_of (left c k)) ≡ counts TapeOver k c m
+          go (inl g) = levels_over g (omega arith)
+          go (inr g) = clocks_over g
 
       module _
           (g : k < length clocks) (h : k < length levels) (r : Stepped)
@@ -117,3 +127,10 @@ few_changes SdaLowSclHigh = omega arith
 few_changes SclHighSdaLow = omega arith
 few_changes SclLowSdaHigh = omega arith
 few_changes SclHighSdaHigh = omega arith
+
+-- and has as many bytes of them
+pub length-bytes : (x : Pins) → length (change_bytes x) ≡ length (changes_of x)
+length-bytes x = simp length-map
+
+pub few_bytes : (x : Pins) → length (change_bytes x) ≤ 2
+few_bytes x = omega (arith, few_changes x, length-bytes x)

@@ -1,4 +1,5 @@
 pub mod LawsRuns
+pub mod LawsTape
 pub mod LawsLaying
 pub mod LawsPolled
 pub mod Clearing

@@ -1,11 +1,10 @@
 -- A run of the bus clear over a tape of samples, after 01, "Bus clear".
-use Rattle.std.specs.Prelude.{ℕ, zero, suc, ◌-◌, ◌≡◌, Bool, false, cond, not, ◌&&◌, List, [], ◌∷◌, ◌++◌, map, length, leb, ltb, eqb}
+use Rattle.std.specs.Prelude.{ℕ, zero, suc, ◌-◌, ◌≡◌, Bool, false, cond, not, ◌&&◌, List, [], ◌∷◌, ◌++◌, map, length, leb, ltb, eqb, Some, None}
 use Rattle.std.proofs.lemmas.List.Edits.{sets}
 use Rattle.bus_clear.specs.declared.Pins.TheVariants.{SclHighSdaHigh}
 use Rattle.bus_clear.specs.declared.BusClear.{BusClear}
 use Rattle.bus_clear.specs.declared.run.Terms.{Terms}
 use Rattle.bus_clear.specs.declared.run.Polls.{Polls}
-use Rattle.bus_clear.specs.declared.run.Told.TheVariants.{Ran, NoRoom}
 use Rattle.bus_clear.specs.declared.run.Report.{Report}
 use Rattle.bus_clear.specs.declared.Answer.{Answer}
 use Rattle.bus_clear.specs.declared.Answer.TheVariants as answer
@@ -94,14 +93,14 @@ abbrev pub run_fits : Terms → Polled → ℕ → Bool
 run_fits t p room = leb (length (all_changes t p)) room
 
 abbrev pub run_roomless : BusClear → Report
-run_roomless c = record { answer = NoRoom; polls = 0; clear = c; changes = 0; reset = false }
+run_roomless c = record { answer = None; polls = 0; clear = c; changes = 0; reset = false }
 
 -- what is reported: 7, with nothing done, where there is too little room
 abbrev pub run_report : Terms → BusClear → Polled → ℕ → Report
 run_report t c p room =
     cond (run_fits t p room)
     (record {
-      answer = Ran p.ending;
+      answer = Some p.ending;
       polls = p.polls;
       clear = p.clear;
       changes = length (all_changes t p);

@@ -3,240 +3,248 @@
 // not acknowledge.
 #![tactic(auto)]
 
-use controller::Phase;
-use controller::inspector::Verdict;
-use controller::model::{Answer, Ending};
-use std::io;
-use std::io::Write;
+use controller::model::{Ending, Sensor};
+use controller::{Commands, inspector, model};
+use std::io::{self, Write};
 
-fn print<W: Write>(out: &mut W, text: &[u8]) -> io::Result<()> {
-    out.write_all(text)
+// A list, the number of the phase in which it comes, and the sensor that it meets.
+#[derive(Clone, Copy)]
+struct Case {
+    name: &'static str,
+    list: Commands<'static>,
+    phase: u32,
+    sensor: Sensor<'static>,
 }
 
-fn print_phase<W: Write>(out: &mut W, phase: Phase) -> io::Result<()> {
-    match phase {
-        Phase::Idle => print(out, b"Idle"),
-        Phase::Started => print(out, b"Started"),
-        Phase::Writing => print(out, b"Writing"),
-        Phase::Reading => print(out, b"Reading"),
-        Phase::ReadDone => print(out, b"ReadDone"),
-    }
-}
-
-fn print_ending<W: Write>(out: &mut W, answer: Answer) -> io::Result<()> {
-    match answer {
-        Answer::NoRoom => print(out, b" no room"),
-        Answer::Ran(ending) => match ending {
-            Ending::Stuck => print(out, b" stuck"),
-            Ending::Refused => print(out, b" refused by the sensor"),
-            Ending::Finished(phase) => {
-                print(out, b" finished in ")?;
-                print_phase(out, phase)
-            }
+const CASES: [Case; 15] = [
+    Case {
+        name: "K2, first list: write 1, continues",
+        list: Commands {
+            words: [0x3000, 0x0902, 0x2000, 0, 0, 0, 0, 0],
+            fifo: b"\x52\xA0",
         },
-    }
-}
+        phase: 0,
+        sensor: Sensor {
+            sends: b"",
+            refuses: 0,
+        },
+    },
+    Case {
+        name: "K2, second list: read 2",
+        list: Commands {
+            words: [0x3000, 0x0901, 0x1801, 0x1C01, 0x1000, 0, 0, 0],
+            fifo: b"\x53",
+        },
+        phase: 2,
+        sensor: Sensor {
+            sends: b"\x12\x34",
+            refuses: 0,
+        },
+    },
+    Case {
+        name: "K5: lone empty write",
+        list: Commands {
+            words: [0x3000, 0x0901, 0x1000, 0, 0, 0, 0, 0],
+            fifo: b"\x52",
+        },
+        phase: 0,
+        sensor: Sensor {
+            sends: b"",
+            refuses: 0,
+        },
+    },
+    Case {
+        name: "K6, second list: write 1 goes on",
+        list: Commands {
+            words: [0x0901, 0x1000, 0x2000, 0, 0, 0, 0, 0],
+            fifo: b"\x02",
+        },
+        phase: 2,
+        sensor: Sensor {
+            sends: b"",
+            refuses: 0,
+        },
+    },
+    Case {
+        name: "K7, second list: a bare STOP",
+        list: Commands {
+            words: [0x1000, 0x2000, 0, 0, 0, 0, 0, 0],
+            fifo: b"",
+        },
+        phase: 2,
+        sensor: Sensor {
+            sends: b"",
+            refuses: 0,
+        },
+    },
+    Case {
+        name: "K11 from Idle",
+        list: Commands {
+            words: [0x1C01, 0x1000, 0, 0, 0, 0, 0, 0],
+            fifo: b"",
+        },
+        phase: 0,
+        sensor: Sensor {
+            sends: b"\x07",
+            refuses: 0,
+        },
+    },
+    Case {
+        name: "K11 from Reading",
+        list: Commands {
+            words: [0x1C01, 0x1000, 0, 0, 0, 0, 0, 0],
+            fifo: b"",
+        },
+        phase: 3,
+        sensor: Sensor {
+            sends: b"\x07",
+            refuses: 0,
+        },
+    },
+    Case {
+        name: "a read that continues cannot stop",
+        list: Commands {
+            words: [0x3000, 0x0901, 0x1802, 0x1000, 0, 0, 0, 0],
+            fifo: b"\x53",
+        },
+        phase: 0,
+        sensor: Sensor {
+            sends: b"\x07\x08",
+            refuses: 0,
+        },
+    },
+    Case {
+        name: "the sensor does not answer to its address",
+        list: Commands {
+            words: [0x3000, 0x0903, 0x1000, 0, 0, 0, 0, 0],
+            fifo: b"\x52\x01\x02",
+        },
+        phase: 0,
+        sensor: Sensor {
+            sends: b"",
+            refuses: 1,
+        },
+    },
+    Case {
+        name: "the sensor refuses the third byte",
+        list: Commands {
+            words: [0x3000, 0x0903, 0x1000, 0, 0, 0, 0, 0],
+            fifo: b"\x52\x01\x02",
+        },
+        phase: 0,
+        sensor: Sensor {
+            sends: b"",
+            refuses: 3,
+        },
+    },
+    Case {
+        name: "a sensor with nothing to send",
+        list: Commands {
+            words: [0x3000, 0x0901, 0x1C01, 0x1000, 0, 0, 0, 0],
+            fifo: b"\x53",
+        },
+        phase: 0,
+        sensor: Sensor {
+            sends: b"",
+            refuses: 0,
+        },
+    },
+    Case {
+        name: "a byte is left in the FIFO",
+        list: Commands {
+            words: [0x3000, 0x0901, 0x1000, 0, 0, 0, 0, 0],
+            fifo: b"\x52\x01",
+        },
+        phase: 0,
+        sensor: Sensor {
+            sends: b"",
+            refuses: 0,
+        },
+    },
+    Case {
+        name: "words after the finish are not looked at",
+        list: Commands {
+            words: [0x3000, 0x0901, 0x1000, 0xFFFF_FFFF, 0, 0, 0, 0],
+            fifo: b"\x52",
+        },
+        phase: 0,
+        sensor: Sensor {
+            sends: b"",
+            refuses: 0,
+        },
+    },
+    Case {
+        name: "a word that is done already",
+        list: Commands {
+            words: [0x8000_3000, 0x0901, 0x1000, 0, 0, 0, 0, 0],
+            fifo: b"\x52",
+        },
+        phase: 0,
+        sensor: Sensor {
+            sends: b"",
+            refuses: 0,
+        },
+    },
+    Case {
+        name: "a phase of no number",
+        list: Commands {
+            words: [0x2000, 0, 0, 0, 0, 0, 0, 0],
+            fifo: b"",
+        },
+        phase: 5,
+        sensor: Sensor {
+            sends: b"",
+            refuses: 0,
+        },
+    },
+];
 
-fn print_byte<W: Write>(out: &mut W, letter: &[u8], byte: u8, answer: &[u8]) -> io::Result<()> {
-    print(out, letter)?;
-    write!(out, "{byte:02x}")?;
-    print(out, answer)
-}
-
-fn print_event<W: Write>(out: &mut W, kind: u8, byte: u8) -> io::Result<()> {
+// The two bytes of an event: what it is, and the byte that it carries.
+// Kept: numbers for kinds, since the model lends its events out as bytes, as the C interface has them.
+fn print_event(out: &mut impl Write, kind: u8, byte: u8) -> io::Result<()> {
     match kind {
-        0 => print(out, b" S"),
-        1 => print(out, b" P"),
-        2 => print_byte(out, b" W", byte, b"+"),
-        3 => print_byte(out, b" W", byte, b"-"),
-        4 => print_byte(out, b" R", byte, b"+"),
-        _ => print_byte(out, b" R", byte, b"-"),
+        0 => write!(out, " S"),
+        1 => write!(out, " P"),
+        2 => write!(out, " W{byte:02x}+"),
+        3 => write!(out, " W{byte:02x}-"),
+        4 => write!(out, " R{byte:02x}+"),
+        _ => write!(out, " R{byte:02x}-"),
     }
 }
 
-fn print_verdict<W: Write>(
-    out: &mut W,
-    words: [u32; 8],
-    fifo: &[u8],
-    phase: u32,
-) -> io::Result<()> {
-    let verdict = controller::inspector::inspect(words, fifo, phase);
-    match verdict {
-        Verdict::Passes(_) => print(out, b"\n  passes:"),
-        Verdict::Refused => print(out, b"\n  refused:"),
+fn print_ending(out: &mut impl Write, ending: Option<Ending>) -> io::Result<()> {
+    match ending {
+        None => writeln!(out, " no room"),
+        Some(Ending::Stuck) => writeln!(out, " stuck"),
+        Some(Ending::Refused) => writeln!(out, " refused by the sensor"),
+        Some(Ending::Finished(phase)) => writeln!(out, " finished in {phase}"),
     }
 }
 
-// The list's words, padded with zeros, from a phase, against a sensor.
-fn show<W: Write>(
-    out: &mut W,
-    name: &[u8],
-    words: [u32; 8],
-    fifo: &[u8],
-    phase: u32,
-    sends: &[u8],
-    refuses: usize,
-) -> io::Result<()> {
-    let mut received = [0u8; 32];
-    let mut events = [0u8; 160];
-    print(out, name)?;
-    print_verdict(out, words, fifo, phase)?;
-    let report = controller::model::run(
-        words,
-        fifo,
-        phase,
-        sends,
-        refuses,
+fn show(out: &mut impl Write, case: &Case) -> io::Result<()> {
+    let name = case.name;
+    let passes = inspector::inspect(case.list, case.phase).is_some();
+    let verdict = if passes { "passes" } else { "refused" };
+    write!(out, "{name}\n  {verdict}:")?;
+    let mut received = [0; 32];
+    let mut events = [0; 160];
+    let report = model::run(
+        case.list,
+        case.phase,
+        case.sensor,
         &mut received,
         &mut events,
     );
-    let count = report.events;
-    for i in 0..80usize {
-        if i < count {
-            print_event(out, events[2 * i], events[2 * i + 1])?;
-        }
+    for event in events.chunks_exact(2).take(report.events) {
+        print_event(out, event[0], event[1])?;
     }
-    let answer = report.answer;
-    print_ending(out, answer)?;
-    print(out, b"\n")
+    print_ending(out, report.answer)
 }
 
 fn main(rt: HostRuntime) -> io::Result<()> {
     let mut out = rt.stdout();
-    show(
-        &mut out,
-        b"K2, first list: write 1, continues",
-        [0x3000, 0x0902, 0x2000, 0, 0, 0, 0, 0],
-        b"\x52\xA0",
-        0,
-        b"",
-        0,
-    )?;
-    show(
-        &mut out,
-        b"K2, second list: read 2",
-        [0x3000, 0x0901, 0x1801, 0x1C01, 0x1000, 0, 0, 0],
-        b"\x53",
-        2,
-        b"\x12\x34",
-        0,
-    )?;
-    show(
-        &mut out,
-        b"K5: lone empty write",
-        [0x3000, 0x0901, 0x1000, 0, 0, 0, 0, 0],
-        b"\x52",
-        0,
-        b"",
-        0,
-    )?;
-    show(
-        &mut out,
-        b"K6, second list: write 1 goes on",
-        [0x0901, 0x1000, 0x2000, 0, 0, 0, 0, 0],
-        b"\x02",
-        2,
-        b"",
-        0,
-    )?;
-    show(
-        &mut out,
-        b"K7, second list: a bare STOP",
-        [0x1000, 0x2000, 0, 0, 0, 0, 0, 0],
-        b"",
-        2,
-        b"",
-        0,
-    )?;
-    show(
-        &mut out,
-        b"K11 from Idle",
-        [0x1C01, 0x1000, 0, 0, 0, 0, 0, 0],
-        b"",
-        0,
-        b"\x07",
-        0,
-    )?;
-    show(
-        &mut out,
-        b"K11 from Reading",
-        [0x1C01, 0x1000, 0, 0, 0, 0, 0, 0],
-        b"",
-        3,
-        b"\x07",
-        0,
-    )?;
-    show(
-        &mut out,
-        b"a read that continues cannot stop",
-        [0x3000, 0x0901, 0x1802, 0x1000, 0, 0, 0, 0],
-        b"\x53",
-        0,
-        b"\x07\x08",
-        0,
-    )?;
-    show(
-        &mut out,
-        b"the sensor does not answer to its address",
-        [0x3000, 0x0903, 0x1000, 0, 0, 0, 0, 0],
-        b"\x52\x01\x02",
-        0,
-        b"",
-        1,
-    )?;
-    show(
-        &mut out,
-        b"the sensor refuses the third byte",
-        [0x3000, 0x0903, 0x1000, 0, 0, 0, 0, 0],
-        b"\x52\x01\x02",
-        0,
-        b"",
-        3,
-    )?;
-    show(
-        &mut out,
-        b"a sensor with nothing to send",
-        [0x3000, 0x0901, 0x1C01, 0x1000, 0, 0, 0, 0],
-        b"\x53",
-        0,
-        b"",
-        0,
-    )?;
-    show(
-        &mut out,
-        b"a byte is left in the FIFO",
-        [0x3000, 0x0901, 0x1000, 0, 0, 0, 0, 0],
-        b"\x52\x01",
-        0,
-        b"",
-        0,
-    )?;
-    show(
-        &mut out,
-        b"words after the finish are not looked at",
-        [0x3000, 0x0901, 0x1000, 0xFFFF_FFFF, 0, 0, 0, 0],
-        b"\x52",
-        0,
-        b"",
-        0,
-    )?;
-    show(
-        &mut out,
-        b"a word that is done already",
-        [0x8000_3000, 0x0901, 0x1000, 0, 0, 0, 0, 0],
-        b"\x52",
-        0,
-        b"",
-        0,
-    )?;
-    show(
-        &mut out,
-        b"a phase of no number",
-        [0x2000, 0, 0, 0, 0, 0, 0, 0],
-        b"",
-        5,
-        b"",
-        0,
-    )?;
+    for case in &CASES {
+        show(&mut out, case)?;
+    }
     Ok(())
 }

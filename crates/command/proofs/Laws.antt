@@ -1,5 +1,6 @@
 -- Laws of the meaning of a word, for citing: its value on each range of words.
 -- Assumes nothing.
+use Rattle.std.specs.Prelude.{Some}
 use Prim.Native.Nat.{ℕ, ◌-◌, ◌≤◌, ◌<◌}
 use native.Mathlib.Omega.{arith}
 use mathlib.Core.Path.{◌≡◌, refl, sym}
@@ -8,16 +9,11 @@ use lib.Dec.{leb}
 use borrow.Author.Tests.{le-leb, lt-leb, ne_eqb, leb-true}
 use Rattle.command.specs.Word.{within, meaning_of}
 use Rattle.command.specs.declared.Command.TheVariants.{Write, Read}
-use Rattle.command.specs.declared.Meaning.TheVariants.{Planned, Malformed}
 
 module _ (low high w : ℕ) where
   pub within_yes : low ≤ w → w ≤ high → within low high w ≡ true
   unfolding within
   within_yes h k = simp (le-leb low w h, le-leb w high k)
-
-  pub within_below : w < low → within low high w ≡ false
-  unfolding within
-  within_below h = simp (lt-leb low w h)
 
   pub within_above : low ≤ w → high < w → within low high w ≡ false
   unfolding within
@@ -32,24 +28,11 @@ module _ (low high w : ℕ) where
       go false l = absurd (true≢false (sym (rw l at e)))
 
 module _ (w : ℕ) where
-  pub meaning_write : 0x0901 ≤ w → w ≤ 0x09FF → meaning_of w ≡ Planned (Write (w - 0x0900))
+  pub meaning_write : 0x0901 ≤ w → w ≤ 0x09FF → meaning_of w ≡ Some (Write (w - 0x0900))
   unfolding meaning_of
   meaning_write h k = simp (ne_eqb w 0x3000 (omega arith), within_yes 0x0901 0x09FF w h k)
 
-  pub meaning_read : 0x1801 ≤ w → w ≤ 0x18FF → meaning_of w ≡ Planned (Read (w - 0x1800))
+  pub meaning_read : 0x1801 ≤ w → w ≤ 0x18FF → meaning_of w ≡ Some (Read (w - 0x1800))
   unfolding meaning_of
   meaning_read h k =
       simp (ne_eqb w 0x3000 (omega arith), within_above 0x0901 0x09FF w (omega arith) (omega arith), within_yes 0x1801 0x18FF w h k)
-
-  -- none of the four single words, and in neither range
-  pub meaning_malformed :
-      (w ≡ 0x3000 → ⊥)
-      → (w ≡ 0x1C01 → ⊥)
-      → (w ≡ 0x1000 → ⊥)
-      → (w ≡ 0x2000 → ⊥)
-      → within 0x0901 0x09FF w ≡ false
-      → within 0x1801 0x18FF w ≡ false
-      → meaning_of w ≡ Malformed
-  unfolding meaning_of
-  meaning_malformed start nack stop end write read =
-      simp (ne_eqb w 0x3000 start, ne_eqb w 0x1C01 nack, ne_eqb w 0x1000 stop, ne_eqb w 0x2000 end, write, read)

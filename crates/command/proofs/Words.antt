@@ -1,5 +1,6 @@
 -- Words and commands: each planned command comes back from its word, and a word means a command only if it is that command's word.
 -- Assumes nothing.
+use Rattle.std.specs.Prelude.{Option, Some, None}
 use Prim.Native.Nat.{ℕ, ◌+◌, ◌/◌, ◌%◌}
 use native.Mathlib.Omega.{arith}
 use mathlib.Core.Path.{◌≡◌, refl, sym, ap, ◌∙◌}
@@ -10,8 +11,6 @@ use borrow.Author.Tests.{eqb-true, eqb-false}
 use Rattle.command.specs.Word.{encode_of, within, meaning_of, Plannable, opcode_of, done_of}
 use Rattle.command.specs.declared.Command.{Command}
 use Rattle.command.specs.declared.Command.TheVariants.{Start, Write, Read, ReadNack, Stop, End}
-use Rattle.command.specs.declared.Meaning.{Meaning}
-use Rattle.command.specs.declared.Meaning.TheVariants.{Planned, Malformed}
 use Rattle.command.proofs.Laws.{within_yes, within_true, meaning_write, meaning_read}
 
 -- the six planned words of document 01
@@ -24,19 +23,19 @@ pub planned_words_lem :
     × (encode_of End ≡ 0x2000)
 planned_words_lem = (refl, (λ n. refl), (λ n. refl), refl, refl, refl)
 
-pub decode_encode : (c : Command) → Plannable c → meaning_of (encode_of c) ≡ Planned c
+pub decode_encode : (c : Command) → Plannable c → meaning_of (encode_of c) ≡ Some c
 unfolding meaning_of within
 decode_encode Start h = refl
-decode_encode (Write n) h = meaning_write (0x0900 + n) (omega arith) (omega arith) ∙ ap (λ (m : ℕ). Planned (Write m)) (omega arith)
-decode_encode (Read n) h = meaning_read (0x1800 + n) (omega arith) (omega arith) ∙ ap (λ (m : ℕ). Planned (Read m)) (omega arith)
+decode_encode (Write n) h = meaning_write (0x0900 + n) (omega arith) (omega arith) ∙ ap (λ (m : ℕ). Some (Write m)) (omega arith)
+decode_encode (Read n) h = meaning_read (0x1800 + n) (omega arith) (omega arith) ∙ ap (λ (m : ℕ). Some (Read m)) (omega arith)
 decode_encode ReadNack h = refl
 decode_encode Stop h = refl
 decode_encode End h = refl
 
 -- what a word means is right of it: a command is plannable and the word is its; a malformed word is no plannable command's
-abbrev Right : ℕ → Meaning → Type 0
-Right w (Planned c) = Plannable c × (encode_of c ≡ w)
-Right w Malformed = (c : Command) → Plannable c → encode_of c ≡ w → ⊥
+abbrev Right : ℕ → Option Command → Type 0
+Right w (Some c) = Plannable c × (encode_of c ≡ w)
+Right w None = (c : Command) → Plannable c → encode_of c ≡ w → ⊥
 
 by_test : {A : Type 0} (P : A → Type 0) (t : Bool) {a b : A} → (t ≡ true → P a) → (t ≡ false → P b) → P (cond t a b)
 by_test P true f g = f refl
@@ -72,17 +71,17 @@ encode_decode w =
     none a b c d s t End h e = eqb-false w 0x2000 t (sym e)
 
 -- a word that has been executed, its done bit set, is malformed
-pub done_malformed : (w : ℕ) → done_of w ≡ true → meaning_of w ≡ Malformed
+pub done_malformed : (w : ℕ) → done_of w ≡ true → meaning_of w ≡ None
 done_malformed w e = go (meaning_of w) (encode_decode w) (eqb-true (w / 0x80000000 % 2) 1 e) refl
   where
-    go : (m : Meaning) → Right w m → w / 0x80000000 % 2 ≡ 1 → meaning_of w ≡ m → meaning_of w ≡ Malformed
-    go Malformed r done q = q
-    go (Planned Start) r done q = absurd (omega arith)
-    go (Planned (Write n)) r done q = absurd (omega arith)
-    go (Planned (Read n)) r done q = absurd (omega arith)
-    go (Planned ReadNack) r done q = absurd (omega arith)
-    go (Planned Stop) r done q = absurd (omega arith)
-    go (Planned End) r done q = absurd (omega arith)
+    go : (m : Option Command) → Right w m → w / 0x80000000 % 2 ≡ 1 → meaning_of w ≡ m → meaning_of w ≡ None
+    go None r done q = q
+    go (Some Start) r done q = absurd (omega arith)
+    go (Some (Write n)) r done q = absurd (omega arith)
+    go (Some (Read n)) r done q = absurd (omega arith)
+    go (Some ReadNack) r done q = absurd (omega arith)
+    go (Some Stop) r done q = absurd (omega arith)
+    go (Some End) r done q = absurd (omega arith)
 
 -- "the command check reads the opcode from bits 11 to 13", and from no other: START, WRITE, STOP, READ, END, each done or with other bits
 -- set; the bits above and below

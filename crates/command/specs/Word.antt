@@ -1,9 +1,7 @@
 -- Command words, after 01, "Command words and lists".
-use Rattle.std.specs.Prelude.{ℕ, ◌+◌, ◌-◌, ◌*◌, ◌/◌, ◌%◌, ◌≤◌, Bool, cond, ◌&&◌, leb, eqb}
+use Rattle.std.specs.Prelude.{ℕ, ◌+◌, ◌-◌, ◌*◌, ◌/◌, ◌%◌, ◌≤◌, Bool, cond, ◌&&◌, leb, eqb, Option, Some, None}
 use Rattle.command.specs.declared.Command.{Command}
 use Rattle.command.specs.declared.Command.TheVariants.{Start, Write, Read, ReadNack, Stop, End}
-use Rattle.command.specs.declared.Meaning.{Meaning}
-use Rattle.command.specs.declared.Meaning.TheVariants.{Planned, Malformed}
 
 -- "Opcodes: WRITE 1, STOP 2, READ 3, END 4, START 6."
 abbrev pub write_opcode : ℕ
@@ -43,15 +41,15 @@ within low high w = leb low w && leb w high
 
 -- "Planned words, in hex: START 3000, WRITE n 0900+n, READ n with ACK 1800+n, READ 1 with NACK 1C01, STOP 1000, END 2000.
 -- Anything else, done bit included, is malformed (n is 1 to 255)."
-unfoldable pub meaning_of : ℕ → Meaning
+unfoldable pub meaning_of : ℕ → Option Command
 meaning_of w =
-    cond (eqb w 0x3000) (Planned Start)
-    (cond (within 0x0901 0x09FF w) (Planned (Write (w - 0x0900)))
-    (cond (within 0x1801 0x18FF w) (Planned (Read (w - 0x1800)))
-    (cond (eqb w 0x1C01) (Planned ReadNack)
-    (cond (eqb w 0x1000) (Planned Stop)
-    (cond (eqb w 0x2000) (Planned End)
-    Malformed)))))
+    cond (eqb w 0x3000) (Some Start)
+    (cond (within 0x0901 0x09FF w) (Some (Write (w - 0x0900)))
+    (cond (within 0x1801 0x18FF w) (Some (Read (w - 0x1800)))
+    (cond (eqb w 0x1C01) (Some ReadNack)
+    (cond (eqb w 0x1000) (Some Stop)
+    (cond (eqb w 0x2000) (Some End)
+    None)))))
 
 -- the commands that a plan may hold: "n is 1 to 255"
 abbrev pub Plannable : Command → Type 0

@@ -15,39 +15,34 @@ pub enum Command {
     End,
 }
 
-// What a word says to the controller.
-#[derive(Drop)]
-pub enum Meaning {
-    Planned(Command),
-    Malformed,
-}
-
 // The word of a command, as `add_cmd` writes it.
+// Kept: encode and decode are a pair by name; as a TryFrom, decode would need an error type that says no more than None.
 pub fn encode(command: Command) -> u32
     ensures { result ≡ encode_of command }
 {
     match command {
         Command::Start => 0x3000,
-        Command::Write(n) => 0x0900 + (n as u32),
-        Command::Read(n) => 0x1800 + (n as u32),
+        Command::Write(n) => 0x0900 + n as u32,
+        Command::Read(n) => 0x1800 + n as u32,
         Command::ReadNack => 0x1C01,
         Command::Stop => 0x1000,
         Command::End => 0x2000,
     }
 }
 
-// The meaning of a word. A word with its done bit set has been executed and is no command any more.
-pub fn decode(word: u32) -> Meaning
+// The command that a word asks for, unless it is malformed. A word with its done bit set has been executed and is no command any more.
+#[tactic(auto, unfolding(crate::specs::Word::meaning_of, crate::specs::Word::within))]
+pub fn decode(word: u32) -> Option<Command>
     ensures { result ≡ meaning_of word }
 {
     match word {
-        0x3000 => Meaning::Planned(Command::Start),
-        0x1C01 => Meaning::Planned(Command::ReadNack),
-        0x1000 => Meaning::Planned(Command::Stop),
-        0x2000 => Meaning::Planned(Command::End),
-        0x0901..=0x09FF => Meaning::Planned(Command::Write((word - 0x0900) as u8)),
-        0x1801..=0x18FF => Meaning::Planned(Command::Read((word - 0x1800) as u8)),
-        _ => Meaning::Malformed,
+        0x3000 => Some(Command::Start),
+        0x1C01 => Some(Command::ReadNack),
+        0x1000 => Some(Command::Stop),
+        0x2000 => Some(Command::End),
+        0x0901..=0x09FF => Some(Command::Write((word - 0x0900) as u8)),
+        0x1801..=0x18FF => Some(Command::Read((word - 0x1800) as u8)),
+        _ => None,
     }
 }
 

@@ -1,6 +1,7 @@
 -- Laws of a run against the sensor that acknowledges everything, for citing: a command that its effect allows changes nothing of what the
 -- rest of the list comes to.
 -- Assumes nothing.
+use Rattle.std.specs.Prelude.{Some, None}
 use Prim.Native.Nat.{ℕ, zero, suc, ◌+◌, ◌≤◌, ◌<◌}
 use native.Mathlib.Numerals.{add-one}
 use mathlib.Core.Path.{◌≡◌, refl, ◌∙◌}
@@ -11,10 +12,8 @@ use borrow.Author.Tests.{le-leb, lt-leb}
 use Rattle.bus.specs.Events.{Acknowledge, ack, nack, Event}
 use Rattle.command.specs.declared.Command.{Command}
 use Rattle.command.specs.declared.Command.TheVariants.{Start, Write, Read, ReadNack, Stop, End}
-use Rattle.command.specs.declared.Meaning.TheVariants.{Planned, Malformed}
 use Rattle.command.specs.Word.{meaning_of}
 use Rattle.controller.specs.declared.Phase.{Phase}
-use Rattle.controller.specs.declared.inspector.Verdict.TheVariants.{Passes, Refused}
 use Rattle.controller.specs.Rules.{State, halts, goes_on, finishes, effect_of}
 use Rattle.controller.specs.Model.{Sensor, Run, done, emit, put, get, obey, run_from, Commands, run_list}
 use Rattle.controller.specs.Verdicts.{willing, verdict_of}
@@ -41,12 +40,12 @@ module _ {A : Type 0} (seen : Run → A) (past : (e : Event) (r : Run) → seen 
   obey_willing End s next = refl
 
 module _ (f : ℕ) (word : ℕ) (more : List ℕ) (s : State) where
-  pub word_malformed : meaning_of word ≡ Malformed → verdict_of (run_from f (word ∷ more) s willing done) ≡ Refused
+  pub word_malformed : meaning_of word ≡ None → verdict_of (run_from f (word ∷ more) s willing done) ≡ None
   unfolding run_from
   word_malformed e = simp e
 
-  module _ (c : Command) (e : meaning_of word ≡ Planned c) where
-    pub word_halts : effect_of f c s ≡ halts → verdict_of (run_from f (word ∷ more) s willing done) ≡ Refused
+  module _ (c : Command) (e : meaning_of word ≡ Some c) where
+    pub word_halts : effect_of f c s ≡ halts → verdict_of (run_from f (word ∷ more) s willing done) ≡ None
     unfolding run_from
     word_halts h = simp (e, h)
 
@@ -57,13 +56,13 @@ module _ (f : ℕ) (word : ℕ) (more : List ℕ) (s : State) where
     unfolding run_from
     word_goes t h = simp (e, h) (obey_willing verdict_of (λ e r. refl) c s (λ j. run_from f more t j done))
 
-    pub word_finishes : (p : Phase) → effect_of f c s ≡ finishes p → verdict_of (run_from f (word ∷ more) s willing done) ≡ Passes p
+    pub word_finishes : (p : Phase) → effect_of f c s ≡ finishes p → verdict_of (run_from f (word ∷ more) s willing done) ≡ Some p
     unfolding run_from
     word_finishes p h = simp (e, h) (obey_willing verdict_of (λ e r. refl) c s (λ j. done p j))
 
 -- a list with too many FIFO bytes is refused, and any other runs from its first word on
 module _ (f : ℕ) (l : Commands) (p : Phase) where
-  pub fifo_exceeded : f < length l.fifo → verdict_of (run_list f l p willing done) ≡ Refused
+  pub fifo_exceeded : f < length l.fifo → verdict_of (run_list f l p willing done) ≡ None
   unfolding run_list
   fifo_exceeded h = simp (lt-leb (length l.fifo) f h)
 
@@ -84,6 +83,6 @@ words_here f words i s h = rw (add-one, drop-cons words i 0)
 pub words_over :
     (f : ℕ) (words : List ℕ) (i : ℕ) (s : State)
     → i ≡ length words
-    → verdict_of (run_from f (drop i words) s willing done) ≡ Refused
+    → verdict_of (run_from f (drop i words) s willing done) ≡ None
 unfolding run_from
 words_over f words i s e = rw (e, drop-length words)

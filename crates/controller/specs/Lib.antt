@@ -5,3 +5,4 @@ pub mod Verdicts
 pub mod Places
 pub mod Traces
 pub mod Tracing
+pub mod Names

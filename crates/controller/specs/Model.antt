@@ -1,12 +1,10 @@
 -- The controller as a model: what goes over the bus when it runs command lists against a sensor, and how that ends, after 01,
 -- "Inspector and controller model".
-use Rattle.std.specs.Prelude.{ℕ, zero, suc, cond, List, [], ◌∷◌, length, take, drop, leb, eqb}
+use Rattle.std.specs.Prelude.{ℕ, zero, suc, cond, List, [], ◌∷◌, length, take, drop, leb, eqb, Option, Some, None}
 use Rattle.bus.specs.Events.{Acknowledge, ack, nack, Event, start_bit, stop_bit, sent, got}
 use Rattle.bus.specs.Traffic.{next_byte}
 use Rattle.command.specs.declared.Command.{Command}
 use Rattle.command.specs.declared.Command.TheVariants.{Start, Write, Read, ReadNack, Stop, End}
-use Rattle.command.specs.declared.Meaning.{Meaning}
-use Rattle.command.specs.declared.Meaning.TheVariants.{Planned, Malformed}
 use Rattle.command.specs.Word.{meaning_of}
 use Rattle.controller.specs.declared.Phase.{Phase}
 use Rattle.controller.specs.declared.Phase.TheVariants.{Idle, Started, Writing, Reading, ReadDone}
@@ -54,9 +52,9 @@ follow (goes_on s) obeyed on finish = obeyed (on s)
 follow (finishes p) obeyed on finish = obeyed (finish p)
 
 -- "Anything else .. is stuck"
-abbrev pub meant : Meaning → (Command → Run) → Run
-meant Malformed run = stuck
-meant (Planned c) run = run c
+abbrev pub meant : Option Command → (Command → Run) → Run
+meant None run = stuck
+meant (Some c) run = run c
 
 -- "a zero word and the table's end included, is stuck. Words after the finish are not looked at."
 unfoldable pub run_from : ℕ → List ℕ → State → Sensor → (Phase → Sensor → Run) → Run
@@ -88,6 +86,12 @@ phase_number Started = 1
 phase_number Writing = 2
 phase_number Reading = 3
 phase_number ReadDone = 4
+
+abbrev pub phase_numbered : ℕ → Option Phase
+phase_numbered n =
+    cond (eqb n 0) (Some Idle)
+    (cond (eqb n 1) (Some Started)
+    (cond (eqb n 2) (Some Writing) (cond (eqb n 3) (Some Reading) (cond (eqb n 4) (Some ReadDone) None))))
 
 unfoldable pub in_phase : ℕ → (Phase → Run) → Run
 in_phase n run =

@@ -1,20 +1,22 @@
--- How the code holds what the rules speak of: the FIFO bytes stay where they are, and a place says how many of them are used.
-use Rattle.std.specs.Prelude.{ℕ, ◌≤◌, ◌≡◌, List, length, drop}
-use Rattle.controller.specs.declared.Place.{Place}
-use Rattle.controller.specs.declared.Move.{Move}
-use Rattle.controller.specs.declared.Move.TheVariants.{Halts, GoesOn, Finishes}
+-- How the code holds what the rules speak of: a place of a list stands for a state.
+use Rattle.std.specs.Prelude.{ℕ, ◌≤◌, ◌<◌, ◌≡◌, List, length, Option, Some, None}
+use Rattle.controller.specs.declared.Phase.{Phase}
+use Rattle.controller.specs.declared.place.Place.{Place}
+use Rattle.controller.specs.declared.place.Move.{Move}
+use Rattle.controller.specs.declared.place.Move.TheVariants.{Halts, GoesOn, Finishes}
 use Rattle.controller.specs.Rules.{State, Effect, halts, goes_on, finishes}
 
 -- the state that a place stands for
-abbrev pub state_at : List ℕ → Place → State
-state_at fifo p = record { phase = p.phase; fifo = drop p.at fifo; received = p.received }
+abbrev pub state_at : Place → State
+state_at p = record { phase = p.phase; fifo = p.fifo.now; received = p.received }
 
--- a place among the FIFO bytes, with no more received than the FIFO holds
-abbrev pub Inside : ℕ → List ℕ → Place → Type 0
-Inside f fifo p = (p.at ≤ length fifo) × (p.received ≤ f)
+-- the first place of a list, unless its bytes exceed the FIFO
+abbrev pub Begins : ℕ → List ℕ → Phase → Option Place → Type 0
+Begins f fifo phase None = f < length fifo
+Begins f fifo phase (Some p) = (length fifo ≤ f) × (state_at p ≡ record { phase = phase; fifo = fifo; received = 0 })
 
--- a move is a turn's, and stays inside
-abbrev pub Moved : ℕ → List ℕ → Move → Effect → Type 0
-Moved f fifo Halts t = t ≡ halts
-Moved f fifo (GoesOn p) t = (t ≡ goes_on (state_at fifo p)) × Inside f fifo p
-Moved f fifo (Finishes q) t = t ≡ finishes q
+-- a move is a turn's
+abbrev pub Moved : Move → Effect → Type 0
+Moved Halts t = t ≡ halts
+Moved (GoesOn p) t = t ≡ goes_on (state_at p)
+Moved (Finishes q) t = t ≡ finishes q

@@ -1,9 +1,8 @@
 -- A run as numbers and bytes, for a test bench that wants to look at it.
-use Rattle.std.specs.Prelude.{ℕ, ◌≡◌, Bool, cond, ◌&&◌, List, [], ◌∷◌, ◌++◌, length, drop, leb}
+use Rattle.std.specs.Prelude.{ℕ, ◌≡◌, Bool, cond, ◌&&◌, List, [], ◌∷◌, ◌++◌, length, drop, leb, Some, None}
 use Rattle.bus.specs.Events.{Acknowledge, ack, nack, Event, start_bit, stop_bit, sent, got}
 use Rattle.controller.specs.declared.model.Ending.{Ending}
 use Rattle.controller.specs.declared.model.Ending.TheVariants.{Stuck, Refused, Finished}
-use Rattle.controller.specs.declared.model.Answer.TheVariants.{Ran, NoRoom}
 use Rattle.controller.specs.declared.model.Report.{Report}
 use Rattle.controller.specs.Model.{Run, stuck, refused, done, emit, events_of}
 use Rattle.controller.specs.Verdicts.{run_one}
@@ -55,14 +54,14 @@ trace_fits r receivedRoom eventsRoom =
     leb (length (received_bytes (events_of r))) receivedRoom && leb (length (traffic_bytes (events_of r))) eventsRoom
 
 abbrev pub trace_roomless : Report
-trace_roomless = record { answer = NoRoom; received = 0; events = 0; refuses = 0 }
+trace_roomless = record { answer = None; received = 0; events = 0; refuses = 0 }
 
 -- the answer: how the run ended, how many bytes it received and how many events there were; 7 where there is too little room
 abbrev pub trace_report : Run → ℕ → ℕ → Report
 trace_report r receivedRoom eventsRoom =
     cond (trace_fits r receivedRoom eventsRoom)
     (record {
-      answer = Ran (ending_of r);
+      answer = Some (ending_of r);
       received = length (received_bytes (events_of r));
       events = length (events_of r);
       refuses = left_of r;

@@ -1,32 +1,37 @@
--- How the code of the model holds a run, event by event, in arrays of fixed size. Private contracts alone cite this.
-use Rattle.std.specs.Prelude.{ℕ, ◌+◌, ◌*◌, ◌≤◌, ◌≡◌, false, cond, List, [], ◌∷◌, length, set, drop, replicate}
+-- How the code of the model holds a run, event by event. Private contracts alone cite this.
+use Rattle.std.specs.Prelude.{ℕ, ◌+◌, ◌*◌, ◌≤◌, ◌≡◌, List, [], ◌∷◌, ◌++◌, length, Result, Ok, Err}
 use Rattle.bus.specs.Events.{Event, start_bit, stop_bit, sent, got}
 use Rattle.command.specs.declared.Command.{Command}
 use Rattle.command.specs.declared.Command.TheVariants.{Start, Write, Read, ReadNack, Stop, End}
-use Rattle.controller.specs.declared.Place.{Place}
+use Rattle.controller.specs.declared.Phase.{Phase}
+use Rattle.controller.specs.declared.model.Kind.{Kind}
+use Rattle.controller.specs.declared.model.Kind.TheVariants as kind
+use Rattle.controller.specs.declared.model.Ending.{Ending}
+use Rattle.controller.specs.declared.model.Ending.TheVariants.{Finished}
 use Rattle.controller.specs.declared.model.Trace.{Trace}
 use Rattle.controller.specs.declared.model.Bench.{Bench}
-use Rattle.controller.specs.declared.model.Traced.{Traced}
-use Rattle.controller.specs.Model.{Sensor, Run, refused, events_of}
+use Rattle.controller.specs.Rules.{State}
+use Rattle.controller.specs.Model.{Sensor, Run, events_of}
 use Rattle.controller.specs.Traces.{sent_kind, got_kind, ending_of, left_of}
 
+abbrev pub kind_number : Kind → ℕ
+kind_number kind.Start = 0
+kind_number kind.Stop = 1
+kind_number kind.Sent = 2
+kind_number kind.SentRefused = 3
+kind_number kind.Got = 4
+kind_number kind.GotLast = 5
+
 abbrev pub blank_trace : Trace
-blank_trace = record { events = replicate 144 0; count = 0; received = replicate 32 0; got = 0 }
+blank_trace = record { events = []; received = [] }
 
 -- one event more, of this kind and with this byte
 abbrev pub noted : Trace → ℕ → ℕ → Trace
-noted t kind byte =
-    record {
-      events = set (set t.events (t.count * 2) kind) (t.count * 2 + 1) byte;
-      count = t.count + 1;
-      received = t.received;
-      got = t.got;
-    }
+noted t kind byte = record { events = t.events ++ kind ∷ byte ∷ []; received = t.received }
 
 -- one received byte more
 abbrev pub stored : Trace → ℕ → Trace
-stored t byte =
-    record { events = t.events; count = t.count; received = set t.received t.got byte; got = t.got + 1 }
+stored t byte = record { events = t.events; received = t.received ++ byte ∷ [] }
 
 -- an event is heard; a byte that was got is stored besides
 unfoldable pub heard : Trace → Event → Trace
@@ -39,30 +44,45 @@ unfoldable pub heard_all : Trace → List Event → Trace
 heard_all t [] = t
 heard_all t (e ∷ es) = heard_all (heard t e) es
 
--- a run from a trace on: its ending, all that is then heard, and what is left of the sensor's countdown
+-- a run that is over: its ending, all that was heard, and what is left of the sensor's countdown
+pub record Traced : Type 0 where
+  pub ending : Ending
+  pub trace : Trace
+  pub refuses : ℕ
+
+-- a run from a trace on
 unfoldable pub traced : Trace → Run → Traced
 traced t r = record { ending = ending_of r; trace = heard_all t (events_of r); refuses = left_of r }
 
--- a trace of at most so many events and so many received bytes
-abbrev pub Within : ℕ → ℕ → Trace → Type 0
-Within events received t = (t.count ≤ events) × (t.got ≤ received)
+-- what is left of the sensor
+abbrev pub sensor_at : Bench → Sensor
+sensor_at b = record { sends = b.sensor.sends.now; refuses = b.sensor.refuses }
 
--- a run from its first event on, in arrays that have room for it
-pub record Tells (x : Traced) (r : Run) : Type 0 where
-  pub all : x ≡ traced blank_trace r
-  pub room : Within 72 32 x.trace
+-- how a list's run ends, and what is left of the sensor's countdown: stuck or refused, nothing for a list that follows
+abbrev pub ending_in : Result Phase Ending → Ending
+ending_in (Ok after) = Finished after
+ending_in (Err ending) = ending
 
--- what is left of the sensor: it has sent the bytes that were received
-abbrev pub sensor_at : List ℕ → Bench → Sensor
-sensor_at sends b = record { sends = drop b.trace.got sends; refuses = b.refuses }
+abbrev pub left_in : Result Phase Ending → Bench → ℕ
+left_in (Ok after) b = b.sensor.refuses
+left_in (Err ending) b = 0
 
--- what follows on a bench: nothing more where the sensor has cut the run, else the next
-abbrev pub resumed : Bench → List ℕ → (Sensor → Run) → Traced
-resumed b sends next = cond b.cut (traced b.trace refused) (traced b.trace (next (sensor_at sends b)))
+abbrev pub ended : Result Phase Ending → Bench → Traced
+ended result b = record { ending = ending_in result; trace = b.trace; refuses = left_in result b }
+
+-- what follows on a bench: nothing more where the run has ended, else the next
+abbrev pub resumed : Result (Unit {0}) Ending → Bench → (Sensor → Run) → Traced
+resumed (Ok obeyed) b next = traced b.trace (next (sensor_at b))
+resumed (Err ending) b next = ended (Err ending) b
 
 -- the second bench is where the first comes to by doing this: whatever follows, the run is the same
-abbrev pub ComesTo : Bench → List ℕ → (Sensor → (Sensor → Run) → Run) → Bench → Type 0
-ComesTo b sends does after = (next : Sensor → Run) → traced b.trace (does (sensor_at sends b) next) ≡ resumed after sends next
+abbrev pub ComesTo : Bench → (Sensor → (Sensor → Run) → Run) → Result (Unit {0}) Ending → Bench → Type 0
+ComesTo b does result after = (next : Sensor → Run) → traced b.trace (does (sensor_at b) next) ≡ resumed result after next
+
+-- at most so many events and so many received bytes more
+abbrev pub Within : Trace → ℕ → ℕ → Trace → Type 0
+Within t events received later =
+    (length later.events ≤ length t.events + 2 * events) × (length later.received ≤ length t.received + received)
 
 -- how many FIFO bytes a command sends, how many bytes it receives, and how many events it causes at most: its bytes, or one START or
 -- STOP
@@ -85,10 +105,9 @@ received_by End = 0
 abbrev pub events_by : Command → ℕ
 events_by c = 1 + written_by c + received_by c
 
--- the run is not cut, the FIFO has the bytes that a command sends, and the trace has room for what it causes
-abbrev pub Fits : List ℕ → Place → Command → Bench → Type 0
-Fits fifo s c b =
-    (b.cut ≡ false)
-    × (s.at + written_by c ≤ length fifo)
-    × (b.trace.count + events_by c ≤ 72)
-    × (b.trace.got + received_by c ≤ 32)
+-- the FIFO has the bytes that a command sends, and the trace has room for what it causes
+abbrev pub Fits : State → Command → Trace → Type 0
+Fits s c t =
+    (written_by c ≤ length s.fifo)
+    × (length t.events + 2 * events_by c ≤ 144)
+    × (length t.received + received_by c ≤ 32)

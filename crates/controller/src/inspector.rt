@@ -3,65 +3,27 @@ ghost use Rattle.std.specs.Prelude.{◌≡◌};
 ghost use Rattle.controller.specs.Model.{run_list, done};
 ghost use Rattle.controller.specs.Verdicts.{willing, verdict_of, inspected};
 
-use crate::{FIFO, Move, Phase, Place};
-use command::Meaning;
+use crate::place::{Move, Place};
+use crate::{Commands, Phase};
 
-// A list passes, and leaves the controller in a phase, or is refused (14).
-#[derive(Drop)]
-pub enum Verdict {
-    Passes(Phase),
-    Refused,
-}
-
-fn inspect_from(words: [u32; 8], fifo: &[u8], phase: Phase) -> Verdict
-    ensures { result ≡ verdict_of (run_list 32 (record { words = words; fifo = fifo.now }) phase willing done) }
+fn inspect_from(list: Commands<'_>, phase: Phase) -> Option<Phase>
+    ensures { result ≡ verdict_of (run_list 32 (record { words = list.entry.words; fifo = list.entry.fifo.now }) phase willing done) }
 {
-    if fifo.len() > FIFO {
-        return Verdict::Refused;
-    }
-    let mut s = Place {
-        phase: phase,
-        at: 0,
-        received: 0,
-    };
-    let mut i = 0;
-    while i < 8 {
-        let meaning = command::decode(words[i]);
-        i += 1;
-        match meaning {
-            Meaning::Malformed => {
-                return Verdict::Refused;
-            }
-            Meaning::Planned(command) => {
-                let taken = crate::take_turn(command, fifo, s);
-                match taken {
-                    Move::Halts => {
-                        return Verdict::Refused;
-                    }
-                    Move::Finishes(after) => {
-                        return Verdict::Passes(after);
-                    }
-                    Move::GoesOn(next) => {
-                        s = next;
-                    }
-                }
-            }
+    let mut place = Place::first(list.fifo, phase)?;
+    for word in list.words {
+        match place.take_turn(command::decode(word)?) {
+            Move::Halts => return None,
+            Move::GoesOn(next) => place = next,
+            Move::Finishes(after) => return Some(after),
         }
     }
-    Verdict::Refused
+    None
 }
 
-// Whether the controller, in the phase of this number, gets stuck on a list; and the phase that the list leaves.
+// The phase that a list leaves, from the phase of this number on; none where the controller gets stuck on it (14).
 #[tactic(auto, unfolding(crate::specs::Verdicts::inspected, crate::specs::Model::in_phase))]
-pub fn inspect(words: [u32; 8], fifo: &[u8], phase: u32) -> Verdict
-    ensures { result ≡ inspected 32 (record { words = words; fifo = fifo.now }) phase }
+pub fn inspect(list: Commands<'_>, phase: u32) -> Option<Phase>
+    ensures { result ≡ inspected 32 (record { words = list.entry.words; fifo = list.entry.fifo.now }) phase }
 {
-    match phase {
-        0 => inspect_from(words, fifo, Phase::Idle),
-        1 => inspect_from(words, fifo, Phase::Started),
-        2 => inspect_from(words, fifo, Phase::Writing),
-        3 => inspect_from(words, fifo, Phase::Reading),
-        4 => inspect_from(words, fifo, Phase::ReadDone),
-        _ => Verdict::Refused,
-    }
+    inspect_from(list, Phase::numbered(phase)?)
 }

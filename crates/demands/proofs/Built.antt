@@ -1,5 +1,6 @@
 -- What each list that the builder makes does on the controller model, for every size of the FIFO, sensor and what follows the list.
 -- Assumes nothing.
+use Rattle.std.specs.Prelude.{Option}
 use Prim.Native.Nat.{ℕ, zero, suc, ◌+◌, ◌-◌, ◌*◌, ◌%◌, ◌≤◌}
 use native.Mathlib.Omega.{arith}
 use native.Mathlib.Nat.{add-zero, zero-add}
@@ -13,7 +14,6 @@ use Rattle.bus.specs.Events.{ack, nack, start_bit, to_sensor, from_sensor}
 use Rattle.bus.specs.Traffic.{opening}
 use Rattle.command.specs.declared.Command.{Command}
 use Rattle.command.specs.declared.Command.TheVariants.{Start, Write, Read, ReadNack, Stop}
-use Rattle.command.specs.declared.Meaning.{Meaning}
 use Rattle.command.specs.Word.{encode_of, meaning_of, within, Plannable}
 use Rattle.command.proofs.Words.{decode_encode}
 use Rattle.list.specs.Lists.{sent_bytes, address_bytes, counted, closing, write_fifo, write_commands, read_fifo, read_commands, padded}
@@ -43,7 +43,7 @@ module _ (f : ℕ) (small : f ≤ 255) (finish : Phase → Sensor → Run) where
       → run_from f (encode_of c ∷ ws) s k finish ≡ follow (effect_of f c s) (obey c s k) (λ t j. run_from f ws t j finish) finish
   unfolding run_from
   run_command c ws s k h =
-      ap (λ (m : Meaning). meant m (λ d. follow (effect_of f d s) (obey d s k) (λ t j. run_from f ws t j finish) finish)) (decode_encode c h)
+      ap (λ (m : Option Command). meant m (λ d. follow (effect_of f d s) (obey d s k) (λ t j. run_from f ws t j finish) finish)) (decode_encode c h)
 
   run_start :
       (ws fifo : List ℕ) (p : Phase) (r : ℕ) (k : Sensor)

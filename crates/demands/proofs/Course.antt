@@ -1,6 +1,8 @@
 -- Begin, then next list and completion in turn with successful snapshots, hand out exactly the plan's lists in order, then none is left;
 -- the read buffer holds the received bytes in order, and its old contents beyond.
 -- Assumes nothing.
+use Rattle.std.specs.Prelude.{Option, Result, Ok, Err}
+use Rattle.refusal.specs.declared.Refusal.{Refusal}
 use Prim.Native.Nat.{ℕ, ◌+◌, ◌-◌, ◌≤◌}
 use native.Mathlib.Nat.{zero-add, add-zero}
 use native.Mathlib.Omega.{arith}
@@ -13,7 +15,6 @@ use lib.Dec.{ltb}
 use borrow.Author.Tests.{ltb-false}
 use Rattle.bus.specs.Operations.{Operation}
 use Rattle.refusal.specs.declared.Refusal.TheVariants.{Room}
-use Rattle.outcome.specs.declared.Due.{Due}
 use Rattle.script.specs.Scripts.{asks, read_total, script_of}
 use Rattle.turns.specs.Steps.{Step}
 use Rattle.turns.specs.Turns.{carries, receives, turns_of, turn_at}
@@ -21,10 +22,7 @@ use Rattle.turns.proofs.LawsTurns.{all_received, received_append, turn_past}
 use Rattle.transaction.specs.declared.Settings.{Settings}
 use Rattle.transaction.specs.declared.Progress.{Progress}
 use Rattle.transaction.specs.declared.Begun.{Begun}
-use Rattle.transaction.specs.declared.Beginning.TheVariants as beginning
 use Rattle.transaction.specs.declared.Handing.TheVariants as handing
-use Rattle.transaction.specs.declared.Timing.{Timing}
-use Rattle.transaction.specs.declared.Timing.TheVariants.{Told, OutOfRange}
 use Rattle.transaction.specs.Deadlines.{fixed_of, due_of}
 use Rattle.transaction.specs.Calls.{accepted_by, begun_by, begin_of}
 use Rattle.transaction.proofs.LawsTurn.{turns_received}
@@ -35,10 +33,10 @@ use Rattle.demands.proofs.LawsCourse.{standing, due_in, is_told, is_success, rou
 
 module _
     (settings : Settings) (address : ℕ) (script : List ℕ) (os : List Operation) (e : script_of address script ≡ asks os)
-    (known : address ≤ 127) (fixed : Due) (old : List ℕ) (room : read_total os ≤ length old)
+    (known : address ≤ 127) (fixed : Option ℕ) (old : List ℕ) (room : read_total os ≤ length old)
   where
     abbrev from : List Step → List Round → List ℕ → Course
-    from rest rs g = record { lists = map (list_for address known) rest; ends = handing.NoneLeft; buffer = filled old (g ++ gathered rest rs) }
+    from rest rs g = record { lists = map (list_for address known) rest; ends = Ok handing.NoneLeft; buffer = filled old (g ++ gathered rest rs) }
 
     -- what is found after the turns that are done
     here : (passed rest : List Step) → turns_of 31 os ≡ passed ++ rest → turn_at 0 (length passed) (turns_of 31 os) ≡ turn_at (all_received passed) 0 rest
@@ -85,7 +83,7 @@ module _
         rw (next, complete, laid) (ap (listed (list_for address known s)) onward ∙ rw (append_assoc g bytes (gathered rest rs)))
 
 gathered_length :
-    (settings : Settings) (fixed : Due) (ts : List Step) (rs : List Round)
+    (settings : Settings) (fixed : Option ℕ) (ts : List Step) (rs : List Round)
     → Succeed settings fixed ts rs
     → length (gathered ts rs) ≡ all_received ts
 unfolding gathered all_received
@@ -100,17 +98,17 @@ module _ (os : List Operation) (before : Progress) (settings : Settings) (room :
   abbrev Accepted : Begun → Type 0
   Accepted b = (read_total os ≤ room) × (b.progress ≡ standing b.progress.fixed 0)
 
-  accepted_by_lem : (t : Timing) (b : Bool) → is_accepted (accepted_by t b before).answer ≡ true → (accepted_by t b before).progress ≡ standing (accepted_by t b before).progress.fixed 0
-  accepted_by_lem OutOfRange b h = absurd (false≢true h)
-  accepted_by_lem (Told due) b h = refl
+  accepted_by_lem : (t : Result (Option ℕ) Refusal) (b : Bool) → is_accepted (accepted_by t b before).answer ≡ true → (accepted_by t b before).progress ≡ standing (accepted_by t b before).progress.fixed 0
+  accepted_by_lem (Err refusal) b h = absurd (false≢true h)
+  accepted_by_lem (Ok due) b h = refl
 
   accepts : is_accepted (begun_by (asks os) before settings room busy time).answer ≡ true → Accepted (begun_by (asks os) before settings room busy time)
   accepts h = go (ltb room (read_total os)) refl h where
     go :
         (small : Bool)
         → ltb room (read_total os) ≡ small
-        → is_accepted (cond small (record { answer = beginning.Refused Room; progress = before }) (accepted_by (fixed_of settings.deadline time) busy before)).answer ≡ true
-        → Accepted (cond small (record { answer = beginning.Refused Room; progress = before }) (accepted_by (fixed_of settings.deadline time) busy before))
+        → is_accepted (cond small (record { answer = Err Room; progress = before }) (accepted_by (fixed_of settings.deadline time) busy before)).answer ≡ true
+        → Accepted (cond small (record { answer = Err Room; progress = before }) (accepted_by (fixed_of settings.deadline time) busy before))
     go true e q = absurd (false≢true q)
     go false e q = (ltb-false room (read_total os) e, accepted_by_lem (fixed_of settings.deadline time) busy q)
 

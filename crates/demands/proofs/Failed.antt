@@ -1,5 +1,7 @@
 -- After a failure, or once abandoned, a transaction hands out no list, whatever is called and with whatever it is handed.
 -- Assumes nothing.
+use Rattle.std.specs.Prelude.{Result, Ok, Err}
+use Rattle.refusal.specs.declared.Refusal.{Refusal}
 use Prim.Native.Nat.{ℕ}
 use mathlib.Core.Path.{◌≡◌, refl, sym, ap}
 use mathlib.Core.Bool.{Bool, true, false, cond, not, ◌&&◌, false≢true}
@@ -17,8 +19,6 @@ use Rattle.transaction.specs.declared.Settings.{Settings}
 use Rattle.transaction.specs.declared.Progress.{Progress}
 use Rattle.transaction.specs.declared.Handing.{Handing}
 use Rattle.transaction.specs.declared.Handing.TheVariants as handing
-use Rattle.transaction.specs.declared.Completion.{Completion}
-use Rattle.transaction.specs.declared.Completion.TheVariants as completion
 use Rattle.transaction.specs.declared.Completed.{Completed}
 use Rattle.transaction.specs.declared.Abandonment.TheVariants as abandonment
 use Rattle.transaction.specs.declared.Abandoned.{Abandoned}
@@ -53,10 +53,10 @@ module _ (p : Progress) (e : Ended p) where
   unfolding abandon_of
   abandon_refused s = rw e.0
 
-  no_list_lem : (h : Handing) → hands h ≡ false → is_list h ≡ false
-  no_list_lem handing.Listed q = absurd (false≢true (sym q))
-  no_list_lem handing.NoneLeft q = absurd (false≢true (sym q))
-  no_list_lem (handing.Refused r) q = refl
+  no_list_lem : (h : Result Handing Refusal) → hands h ≡ false → is_list h ≡ false
+  no_list_lem (Ok handing.Listed) q = absurd (false≢true (sym q))
+  no_list_lem (Ok handing.NoneLeft) q = absurd (false≢true (sym q))
+  no_list_lem (Err r) q = refl
 
   ended : (ls : List Later) → none_listed our_calls p ls
   unfolding none_listed next_of complete_of
@@ -73,11 +73,11 @@ module _ (p : Progress) (e : Ended p) where
   ended (abandons s ∷ ls) = rw (abandon_kept p s (abandon_refused s)) (ended ls)
 
 -- which completions fail
-abbrev fails : Completion → Bool
-fails (completion.Told Pending) = false
-fails (completion.Told Done) = false
-fails (completion.Told (Failed e)) = true
-fails (completion.Refused r) = false
+abbrev fails : Result Outcome Refusal → Bool
+fails (Ok Pending) = false
+fails (Ok Done) = false
+fails (Ok (Failed e)) = true
+fails (Err r) = false
 
 module _ (p : Progress) where
   landed_ends : (o : Outcome) → fails (landed_by o p).answer ≡ true → Ended (landed_by o p).progress
@@ -96,13 +96,13 @@ module _ (p : Progress) where
   completed_ends : (t : Turn) (total : ℕ) (s : Snapshot) (got room : ℕ) → Ends (turn_completed t total p s got room)
   completed_ends beyond total s got room h = absurd (false≢true h)
   completed_ends over total s got room h = go p.outstanding h where
-    go : (a : Bool) → Ends (cond a (keeping (completion.Refused Shape) p) (keeping (completion.Refused OutOfTurn) p))
+    go : (a : Bool) → Ends (cond a (keeping (Err Shape) p) (keeping (Err OutOfTurn) p))
     go true q = absurd (false≢true q)
     go false q = absurd (false≢true q)
   completed_ends (turn t at) total s got room h = go (not p.outstanding) (ltb room total) h where
     go :
         (a b : Bool)
-        → Ends (cond a (keeping (completion.Refused OutOfTurn) p) (cond b (keeping (completion.Refused Room) p) (told_as (classify_of s p.polled p.due).outcome (classify_of s p.polled p.due).polled (received_of (receives t) got) p)))
+        → Ends (cond a (keeping (Err OutOfTurn) p) (cond b (keeping (Err Room) p) (told_as (classify_of s p.polled p.due).outcome (classify_of s p.polled p.due).polled (received_of (receives t) got) p)))
     go true b q = absurd (false≢true q)
     go false true q = absurd (false≢true q)
     go false false q =
@@ -112,13 +112,13 @@ module _ (p : Progress) where
   complete_ends (refused r) s got room h = absurd (false≢true h)
   complete_ends (asks os) s got room h = completed_ends (turn_at 0 p.place (turns_of 31 os)) (read_total os) s got room h
 
-  abandon_ends : (s : Snapshot) → ((abandon_of p s).answer ≡ abandonment.Refused OutOfTurn → ⊥) → Ended (abandon_of p s).progress
+  abandon_ends : (s : Snapshot) → ((abandon_of p s).answer ≡ Err OutOfTurn → ⊥) → Ended (abandon_of p s).progress
   unfolding abandon_of
   abandon_ends s h = go (not p.outstanding) (not p.polled && resets (poll_of s p.due)) h where
     go :
         (a b : Bool)
-        → ((cond {A = Abandoned} a (record { answer = abandonment.Refused OutOfTurn; progress = p }) (record { answer = cond b abandonment.ResetAndClear abandonment.Quiet; progress = failing p })).answer ≡ abandonment.Refused OutOfTurn → ⊥)
-        → Ended (cond {A = Abandoned} a (record { answer = abandonment.Refused OutOfTurn; progress = p }) (record { answer = cond b abandonment.ResetAndClear abandonment.Quiet; progress = failing p })).progress
+        → ((cond {A = Abandoned} a (record { answer = Err OutOfTurn; progress = p }) (record { answer = cond b (Ok abandonment.ResetAndClear) (Ok abandonment.Quiet); progress = failing p })).answer ≡ Err OutOfTurn → ⊥)
+        → Ended (cond {A = Abandoned} a (record { answer = Err OutOfTurn; progress = p }) (record { answer = cond b (Ok abandonment.ResetAndClear) (Ok abandonment.Quiet); progress = failing p })).progress
     go true b q = absurd (q refl)
     go false b q = (refl, refl)
 

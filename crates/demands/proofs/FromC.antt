@@ -1,6 +1,8 @@
 -- A transaction from C is the one by value: no call refuses the record that the call before it left in memory, and takes it for what it is.
 -- So the calls for C hand out the plan.
 -- Assumes nothing.
+use Rattle.std.specs.Prelude.{None, Result, Ok, Err}
+use Rattle.outcome.specs.declared.Outcome.{Outcome}
 use Prim.Native.Nat.{ℕ, ◌*◌, ◌≤◌}
 use native.Mathlib.Nat.{mul-mod_right}
 use native.Mathlib.Omega.{arith}
@@ -10,7 +12,6 @@ use mathlib.Core.List.{List, [], ◌∷◌, map}
 use lib.ListN.{length}
 use lib.Dec.{ltb}
 use borrow.Author.Tests.{le-ltb, ltb-false, eq-eqb}
-use Rattle.outcome.specs.declared.Due.TheVariants.{Never}
 use Rattle.outcome.specs.declared.Outcome.TheVariants.{Pending, Done, Failed}
 use Rattle.outcome.specs.declared.Snapshot.{Snapshot}
 use Rattle.refusal.specs.declared.Refusal.{Refusal}
@@ -25,8 +26,6 @@ use Rattle.transaction.specs.declared.Handing.{Handing}
 use Rattle.transaction.specs.declared.Handing.TheVariants as handing
 use Rattle.transaction.specs.declared.Handed.{Handed}
 use Rattle.transaction.specs.declared.Completed.{Completed}
-use Rattle.transaction.specs.declared.Completion.{Completion}
-use Rattle.transaction.specs.declared.Completion.TheVariants as completion
 use Rattle.transaction.specs.Calls.{accepted, begin_of, next_of, complete_of, buffer_of}
 use Rattle.transaction.specs.Numbers.{begin_number}
 use Rattle.sitankulo.specs.Answers.{yes}
@@ -44,12 +43,12 @@ use Rattle.demands.proofs.Course.{calls_plan}
 
 -- where none is left at the end of the one by value, the other has the same lists and the same buffer, and ends with SITANKULO_NONE
 abbrev Agrees : Course → FromC → Type 0
-Agrees c d = c.ends ≡ handing.NoneLeft → d ≡ record { lists = c.lists; last = 254; buffer = c.buffer }
+Agrees c d = c.ends ≡ (Ok handing.NoneLeft) → d ≡ record { lists = c.lists; last = 254; buffer = c.buffer }
 
-abbrev is_none : Handing → Bool
-is_none handing.Listed = false
-is_none handing.NoneLeft = true
-is_none (handing.Refused r) = false
+abbrev is_none : Result Handing Refusal → Bool
+is_none (Ok handing.Listed) = false
+is_none (Ok handing.NoneLeft) = true
+is_none (Err r) = false
 
 -- a record in memory that is p
 record Lies (state : List ℕ) (p : Progress) : Type 0 where
@@ -67,10 +66,10 @@ lies state p fits stands =
 stays : (r : Refusal) → goes_ahead (number_of r) ≡ false
 stays = by_number (λ n. goes_ahead n ≡ false) refl refl refl refl refl refl refl refl refl refl
 
-accepts : (a : Beginning) → goes_ahead (begin_number a) ≡ true → is_accepted a ≡ true
-accepts beginning.Ready e = refl
-accepts beginning.ClearFirst e = refl
-accepts (beginning.Refused r) e = absurd (false≢true (sym (stays r) ∙ e))
+accepts : (a : Result Beginning Refusal) → goes_ahead (begin_number a) ≡ true → is_accepted a ≡ true
+accepts (Ok beginning.Ready) e = refl
+accepts (Ok beginning.ClearFirst) e = refl
+accepts (Err r) e = absurd (false≢true (sym (stays r) ∙ e))
 
 begin_says : (kind room : ℕ) (b : Begun) → goes_ahead (begin_answer kind room b) ≡ true → (kind ≤ 2) × (is_accepted b.answer ≡ true)
 unfolding begin_answer
@@ -132,16 +131,16 @@ module _ (kind duration address : ℕ) (script : List ℕ) (known : kind ≤ 2) 
       landed_is = rw waiting.read
 
       -- and answers by what it hands out
-      listed_told : h.answer ≡ handing.Listed → next_answer kind state (script_of address script) h 32 32 ≡ 256 * h.list.count
+      listed_told : h.answer ≡ (Ok handing.Listed) → next_answer kind state (script_of address script) h 32 32 ≡ 256 * h.list.count
       unfolding next_answer list_answer
       listed_told q =
           rw (le-ltb 2 kind known, l.taken, q, le-ltb 32 h.list.count (few_handed p settings address r.asked script h refl).0)
 
-      none_told : h.answer ≡ handing.NoneLeft → next_answer kind state (script_of address script) h 32 32 ≡ 254
+      none_told : h.answer ≡ (Ok handing.NoneLeft) → next_answer kind state (script_of address script) h 32 32 ≡ 254
       unfolding next_answer list_answer
       none_told q = rw (le-ltb 2 kind known, l.taken, q)
 
-      done_told : c.answer ≡ completion.Told Done → complete_answer waits r.commands (script_of address script) c ≡ 0
+      done_told : c.answer ≡ Ok Done → complete_answer waits r.commands (script_of address script) c ≡ 0
       unfolding complete_answer
       done_told q = rw (eq-eqb (length r.commands) 32 sized, waiting.taken, q)
 
@@ -150,26 +149,26 @@ module _ (kind duration address : ℕ) (script : List ℕ) (known : kind ≤ 2) 
 
       module _ (onward : Agrees rest (course_from_c kind duration address script (renewed waits c.progress) b rs)) where
         by_completion :
-            h.answer ≡ handing.Listed
-            → (x : Completion)
+            h.answer ≡ Ok handing.Listed
+            → (x : Result Outcome Refusal)
             → c.answer ≡ x
             → Agrees (listed h.list (afterwards x h.answer b rest)) (course_from_c kind duration address script state buffer (r ∷ rs))
         unfolding course_from_c
-        by_completion q (completion.Told Done) e none =
+        by_completion q (Ok Done) e none =
             rw (handed_is, listed_told q, mul-mod_right 256 h.list.count, completed_is, landed_is, done_told e) (ap (with h.list) (onward none))
-        by_completion q (completion.Told Pending) e none = absurd (false≢true (ap is_none (sym q ∙ none)))
-        by_completion q (completion.Told (Failed error)) e none = absurd (false≢true (ap is_none (sym q ∙ none)))
-        by_completion q (completion.Refused x) e none = absurd (false≢true (ap is_none (sym q ∙ none)))
+        by_completion q (Ok Pending) e none = absurd (false≢true (ap is_none (sym q ∙ none)))
+        by_completion q (Ok (Failed error)) e none = absurd (false≢true (ap is_none (sym q ∙ none)))
+        by_completion q (Err x) e none = absurd (false≢true (ap is_none (sym q ∙ none)))
 
         by_handing :
-            (a : Handing)
+            (a : Result Handing Refusal)
             → h.answer ≡ a
             → Agrees (given a h.list buffer (afterwards c.answer h.answer b rest))
             (course_from_c kind duration address script state buffer (r ∷ rs))
         unfolding course_from_c
-        by_handing handing.Listed q none = by_completion q c.answer refl none
-        by_handing handing.NoneLeft q none = rw (handed_is, none_told q)
-        by_handing (handing.Refused x) q none = absurd (false≢true (ap is_none none))
+        by_handing (Ok handing.Listed) q none = by_completion q c.answer refl none
+        by_handing (Ok handing.NoneLeft) q none = rw (handed_is, none_told q)
+        by_handing (Err x) q none = absurd (false≢true (ap is_none none))
 
   -- the whole transaction
   memory_course :
@@ -188,7 +187,7 @@ module _ (kind duration address : ℕ) (script : List ℕ) (known : kind ≤ 2) 
 pub plan_from_c : (kind duration address : ℕ) (script : List ℕ) → HandsOutPlanFromC kind duration address script
 unfolding begun_for
 plan_from_c kind duration address script state buffer busy time os rs e ahead whole well =
-    let before = accepted Never in
+    let before = accepted None in
     let settings = settings_of kind duration in
     let begun = begin_of before settings address script (length buffer) (yes busy) time in
     let said = begin_says kind (length state) begun ahead in

@@ -1,5 +1,6 @@
 -- Our inspector is sound and complete, and each wrong one fails one of the two. Over every size of the FIFO.
 -- Assumes nothing.
+use Rattle.std.specs.Prelude.{Option, Some, None}
 use Prim.Native.Nat.{ℕ, zero, suc, ◌≤◌}
 use native.Mathlib.Omega.{arith}
 use mathlib.Core.Path.{◌≡◌, refl, sym, ◌∙◌}
@@ -11,12 +12,9 @@ use borrow.Author.Tests.{le-leb}
 use Rattle.bus.specs.Events.{Acknowledge, ack, nack, Event}
 use Rattle.command.specs.declared.Command.{Command}
 use Rattle.command.specs.declared.Command.TheVariants.{Start, Write, Read, ReadNack, Stop, End}
-use Rattle.command.specs.declared.Meaning.{Meaning}
-use Rattle.command.specs.declared.Meaning.TheVariants.{Planned, Malformed}
 use Rattle.command.specs.Word.{meaning_of, within}
 use Rattle.controller.specs.declared.Phase.{Phase}
 use Rattle.controller.specs.declared.Phase.TheVariants.{Idle, Started, Writing, Reading, ReadDone}
-use Rattle.controller.specs.declared.inspector.Verdict.TheVariants.{Passes, Refused}
 use Rattle.controller.specs.Rules.{State, Effect, halts, goes_on, finishes, effect_of}
 use Rattle.controller.specs.Model.{Sensor, Run, stuck, refused, done, emit, put, get, obey, meant, follow, run_from, Commands, run_list, in_phase, end_of}
 use Rattle.controller.specs.Verdicts.{willing, run_one, verdict_of, inspected}
@@ -58,7 +56,7 @@ done_free : (p : Phase) (k : Sensor) → Free (done p k)
 unfolding end_of
 done_free p k e = let z : ◌≡◌ {A = ℕ} 0 1 = cc in omega arith
 
-passes_no_refusal : (p : Phase) → Passes p ≡ Refused → ⊥
+passes_no_refusal : (p : Phase) → Some p ≡ None → ⊥
 passes_no_refusal p e = let z : ◌≡◌ {A = ℕ} 0 1 = cc in omega arith
 
 -- one word in front of what is known of the rest
@@ -73,16 +71,16 @@ module _ (f : ℕ) (more : List ℕ) (s : State) where
     turn_free c (finishes p) h = obey_free (done p) (done_free p) c s k
 
     meaning_free :
-        (m : Meaning)
+        (m : Option Command)
         → Free (meant m (λ c. follow (effect_of f c s) (obey c s willing) on done))
         → Free (meant m (λ c. follow (effect_of f c s) (obey c s k) on done))
-    meaning_free Malformed h = h
-    meaning_free (Planned c) h = turn_free c (effect_of f c s) h
+    meaning_free None h = h
+    meaning_free (Some c) h = turn_free c (effect_of f c s) h
 
-  module _ (rest : (u : State) → verdict_of (on u willing) ≡ Refused → end_of (on u willing) ≡ stuck) where
+  module _ (rest : (u : State) → verdict_of (on u willing) ≡ None → end_of (on u willing) ≡ stuck) where
     turn_stuck :
         (c : Command) (t : Effect)
-        → verdict_of (follow t (obey c s willing) on done) ≡ Refused
+        → verdict_of (follow t (obey c s willing) on done) ≡ None
         → end_of (follow t (obey c s willing) on done) ≡ stuck
     unfolding end_of
     turn_stuck c halts h = refl
@@ -91,12 +89,12 @@ module _ (f : ℕ) (more : List ℕ) (s : State) where
     turn_stuck c (finishes p) h = absurd (passes_no_refusal p (sym (obey_willing verdict_of (λ e r. refl) c s (done p)) ∙ h))
 
     meaning_stuck :
-        (m : Meaning)
-        → verdict_of (meant m (λ c. follow (effect_of f c s) (obey c s willing) on done)) ≡ Refused
+        (m : Option Command)
+        → verdict_of (meant m (λ c. follow (effect_of f c s) (obey c s willing) on done)) ≡ None
         → end_of (meant m (λ c. follow (effect_of f c s) (obey c s willing) on done)) ≡ stuck
     unfolding end_of
-    meaning_stuck Malformed h = refl
-    meaning_stuck (Planned c) h = turn_stuck c (effect_of f c s) h
+    meaning_stuck None h = refl
+    meaning_stuck (Some c) h = turn_stuck c (effect_of f c s) h
 
 module _ (f : ℕ) where
   -- what is free against the willing sensor is free against every sensor
@@ -106,7 +104,7 @@ module _ (f : ℕ) where
   words_free (word ∷ more) s h k = meaning_free f more s (words_free more) k (meaning_of word) h
 
   -- against the willing sensor a run is refused only where it is stuck
-  words_stuck : (ws : List ℕ) (s : State) → verdict_of (run_from f ws s willing done) ≡ Refused → end_of (run_from f ws s willing done) ≡ stuck
+  words_stuck : (ws : List ℕ) (s : State) → verdict_of (run_from f ws s willing done) ≡ None → end_of (run_from f ws s willing done) ≡ stuck
   unfolding run_from on end_of
   words_stuck [] s h = refl
   words_stuck (word ∷ more) s h = meaning_stuck f more s (words_stuck more) (meaning_of word) h
@@ -127,7 +125,7 @@ module _ (f : ℕ) where
       go true h k = words_free l.words start h k
       go false h k = h
 
-  list_stuck : (l : Commands) (p : Phase) → verdict_of (run_list f l p willing done) ≡ Refused → end_of (run_list f l p willing done) ≡ stuck
+  list_stuck : (l : Commands) (p : Phase) → verdict_of (run_list f l p willing done) ≡ None → end_of (run_list f l p willing done) ≡ stuck
   unfolding run_list end_of
   list_stuck l p = go (leb (length l.fifo) f)
     where
@@ -136,7 +134,7 @@ module _ (f : ℕ) where
 
       go :
           (t : Bool)
-          → verdict_of (cond t (run_from f l.words start willing done) stuck) ≡ Refused
+          → verdict_of (cond t (run_from f l.words start willing done) stuck) ≡ None
           → end_of (cond t (run_from f l.words start willing done) stuck) ≡ stuck
       go true h = words_stuck l.words start h
       go false h = refl
@@ -162,7 +160,7 @@ by_phase P r q each none n = go (eqb n 0) (eqb n 1) (eqb n 2) (eqb n 3) (eqb n 4
     go false false false false true = each ReadDone
     go false false false false false = none
 
-passes_free : (r : Run) (p : Phase) → verdict_of r ≡ Passes p → Free r
+passes_free : (r : Run) (p : Phase) → verdict_of r ≡ Some p → Free r
 unfolding end_of
 passes_free stuck p h = absurd (passes_no_refusal p (sym h))
 passes_free refused p h = absurd (passes_no_refusal p (sym h))
@@ -179,7 +177,7 @@ module _ (f : ℕ) where
   pub inspector_complete : Complete f (inspected f)
   unfolding inspected end_of
   inspector_complete l n h =
-      by_phase (λ r q. verdict_of r ≡ Refused → end_of q ≡ stuck) (λ p. run_list f l p willing done) (λ p. run_list f l p willing done)
+      by_phase (λ r q. verdict_of r ≡ None → end_of q ≡ stuck) (λ p. run_list f l p willing done) (λ p. run_list f l p willing done)
       (λ p h. list_stuck f l p h) (λ h. refl) n h
 
   -- a bare END in Writing finishes, whatever stands after it

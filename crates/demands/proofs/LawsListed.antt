@@ -1,5 +1,6 @@
 -- Laws of planned lists: the lists of the turns, one for each, are the plan.
 -- Assumes nothing.
+use Rattle.std.specs.Prelude.{Ok}
 use Prim.Native.Nat.{ℕ, suc, ◌≤◌}
 use native.Mathlib.Omega.{arith}
 use mathlib.Core.Path.{◌≡◌, refl, sym, ap}
@@ -70,7 +71,7 @@ module _ (address : ℕ) (known : address ≤ 127) where
   none_empty (b ∷ bytes) = sym (ne_eqb (suc (length bytes)) 0 (λ e. absurd (omega arith)))
 
   -- a step without a list, and one with
-  without : (s : Step) → listless s ≡ true → (built_of 32 address s).answer ≡ NoList
+  without : (s : Step) → listless s ≡ true → (built_of 32 address s).answer ≡ Ok NoList
   unfolding write_step_of read_step_of unlisted
   without (write_step bytes start stop) e = rw (le-ltb 127 address known, ← none_empty bytes, e)
   without (read_step n start stop continues) e = rw (le-ltb 127 address known, e)
@@ -83,7 +84,7 @@ module _ (address : ℕ) (known : address ≤ 127) where
   read_room true n h = omega arith
   read_room false n h = omega arith
 
-  with_one : (s : Step) → Fits s → listless s ≡ false → (built_of 32 address s).answer ≡ Listed
+  with_one : (s : Step) → Fits s → listless s ≡ false → (built_of 32 address s).answer ≡ Ok Listed
   unfolding write_step_of read_step_of listed
   with_one (write_step bytes start stop) h e =
       rw (le-ltb 127 address known, ← none_empty bytes, e)

@@ -1,5 +1,6 @@
 -- What the steps of a plan do on the controller model: a step, the pieces of an operation.
 -- Assumes nothing.
+use Rattle.std.specs.Prelude.{Ok}
 use Prim.Native.Nat.{ℕ, zero, suc, ◌+◌, ◌-◌, ◌≤◌, ◌<◌}
 use native.Mathlib.Nat.{zero-add, suc-add}
 use native.Mathlib.Omega.{arith}
@@ -92,7 +93,7 @@ module _ (f : ℕ) (small : f ≤ 255) (address : ℕ) (known : address ≤ 127)
 
   run_needless :
       (s : Step) (more : List Step) (p : Phase) (k : Sensor)
-      → built_of f address s ≡ unlisted NoList
+      → built_of f address s ≡ unlisted (Ok NoList)
       → goes (s ∷ more) p k ≡ goes more p k
   unfolding lists_of unlisted
   run_needless s more p k e =

@@ -1,6 +1,7 @@
 -- Laws of lists in turn: against the sensor that acknowledges everything, a run over several lists passes where each passes from the
 -- phase that the one before it leaves.
 -- Assumes nothing.
+use Rattle.std.specs.Prelude.{Option, Some, None}
 use Prim.Native.Nat.{ℕ}
 use mathlib.Core.Path.{◌≡◌, refl, sym, ap, ◌∙◌, fun_ext}
 use mathlib.Core.Bool.{Bool, true, false, cond}
@@ -8,11 +9,8 @@ use mathlib.Core.List.{List, [], ◌∷◌}
 use lib.ListN.{length}
 use lib.Dec.{leb}
 use Rattle.command.specs.declared.Command.{Command}
-use Rattle.command.specs.declared.Meaning.{Meaning}
-use Rattle.command.specs.declared.Meaning.TheVariants.{Planned, Malformed}
 use Rattle.command.specs.Word.{meaning_of}
 use Rattle.controller.specs.declared.Phase.{Phase}
-use Rattle.controller.specs.declared.inspector.Verdict.{Verdict}
 use Rattle.controller.specs.Rules.{State, Effect, halts, goes_on, finishes, effect_of}
 use Rattle.controller.specs.Model.{Sensor, Run, stuck, done, obey, follow, meant, run_from, Commands, run_list, run_lists}
 use Rattle.controller.specs.Verdicts.{willing, verdict_of, inspected}
@@ -21,7 +19,7 @@ use Rattle.demands.specs.Planners.{passing_on, in_turn}
 use Rattle.demands.proofs.LawsBuilt.{in_its_phase}
 
 module _ (f : ℕ) (finish : Phase → Sensor → Run) where
-  abbrev next : Phase → Verdict
+  abbrev next : Phase → Option Phase
   next p = verdict_of (finish p willing)
 
   obeyed : (c : Command) (s : State) (on : Sensor → Run) → verdict_of (obey c s willing on) ≡ verdict_of (on willing)
@@ -42,15 +40,15 @@ module _ (f : ℕ) (finish : Phase → Sensor → Run) where
           ≡ passing_on (verdict_of (follow t (obey c s willing) (λ u j. run_from f more u j done) done)) next
       by_turn rest c halts = refl
       by_turn rest c (goes_on u) =
-          obeyed c s _ ∙ rest u ∙ ap (λ (v : Verdict). passing_on v next) (sym (obeyed c s (λ j. run_from f more u j done)))
-      by_turn rest c (finishes p) = obeyed c s _ ∙ ap (λ (v : Verdict). passing_on v next) (sym (obeyed c s (done p)))
+          obeyed c s _ ∙ rest u ∙ ap (λ (v : Option Phase). passing_on v next) (sym (obeyed c s (λ j. run_from f more u j done)))
+      by_turn rest c (finishes p) = obeyed c s _ ∙ ap (λ (v : Option Phase). passing_on v next) (sym (obeyed c s (done p)))
 
       by_meaning :
-          (rest : (u : State) → Shown more u) (m : Meaning)
+          (rest : (u : State) → Shown more u) (m : Option Command)
           → verdict_of (meant m (λ c. follow (effect_of f c s) (obey c s willing) (λ u j. run_from f more u j finish) finish))
           ≡ passing_on (verdict_of (meant m (λ c. follow (effect_of f c s) (obey c s willing) (λ u j. run_from f more u j done) done))) next
-      by_meaning rest Malformed = refl
-      by_meaning rest (Planned c) = by_turn rest c (effect_of f c s)
+      by_meaning rest None = refl
+      by_meaning rest (Some c) = by_turn rest c (effect_of f c s)
 
   list_then :
       (l : Commands) (p : Phase) → verdict_of (run_list f l p willing finish) ≡ passing_on (verdict_of (run_list f l p willing done)) next
@@ -69,5 +67,5 @@ unfolding in_turn run_lists inspected
 in_turn_runs f [] p = refl
 in_turn_runs f (l ∷ ls) p =
     ap (λ (r : Run). passing_on (verdict_of r) (λ q. in_turn f ls q)) (in_its_phase p (λ q. run_list f l q willing done))
-    ∙ ap (λ (g : Phase → Verdict). passing_on (verdict_of (run_list f l p willing done)) g) (fun_ext (λ q. in_turn_runs f ls q))
+    ∙ ap (λ (g : Phase → Option Phase). passing_on (verdict_of (run_list f l p willing done)) g) (fun_ext (λ q. in_turn_runs f ls q))
     ∙ sym (list_then f (λ q j. run_lists f ls q j) l p)

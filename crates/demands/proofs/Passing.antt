@@ -1,5 +1,6 @@
 -- Which of the builder's lists the inspector passes, from a phase that fits their flags: all but a read that continues and stops.
 -- Assumes nothing.
+use Rattle.std.specs.Prelude.{Some, None}
 use Prim.Native.Nat.{ℕ, ◌-◌, ◌≤◌}
 use mathlib.Core.Path.{◌≡◌, refl, ap, ◌∙◌}
 use mathlib.Core.Bool.{Bool, true, false, cond, ◌&&◌}
@@ -9,7 +10,6 @@ use Rattle.bus.specs.Events.{ack, nack, to_sensor, from_sensor}
 use Rattle.list.specs.Lists.{address_bytes, write_fifo}
 use Rattle.controller.specs.declared.Phase.{Phase}
 use Rattle.controller.specs.declared.Phase.TheVariants.{Writing}
-use Rattle.controller.specs.declared.inspector.Verdict.TheVariants.{Passes, Refused}
 use Rattle.controller.specs.Model.{Sensor, Run, done, phase_number}
 use Rattle.controller.specs.Verdicts.{willing, verdict_of, inspected}
 use Rattle.controller.proofs.LawsRuns.{put_willing, get_willing}
@@ -27,7 +27,7 @@ takes_willing true n next = get_willing verdict_of (λ e r. refl) ack n next
 takes_willing false n next =
     get_willing verdict_of (λ e r. refl) ack (n - 1) _ ∙ get_willing verdict_of (λ e r. refl) nack 1 next
 
-shuts_willing : (stop : Bool) (p : Phase) → verdict_of (shuts stop p willing done) ≡ Passes (leaves stop p)
+shuts_willing : (stop : Bool) (p : Phase) → verdict_of (shuts stop p willing done) ≡ Some (leaves stop p)
 shuts_willing true p = refl
 shuts_willing false p = refl
 
@@ -37,7 +37,7 @@ module _ (f : ℕ) (small : f ≤ 255) (address : ℕ) (start : Bool) (p : Phase
       (bytes : List ℕ) (stop : Bool)
       → length (write_fifo address bytes start) ≤ f
       → fits_write start p ≡ true
-      → inspected f (write_list address bytes start stop) (phase_number p) ≡ Passes (leaves stop Writing)
+      → inspected f (write_list address bytes start stop) (phase_number p) ≡ Some (leaves stop Writing)
   unfolding inspected
   builder_write_passes bytes stop n h =
       ap verdict_of (in_its_phase p _ ∙ built_write f small done address bytes start stop p willing n h)
@@ -49,7 +49,7 @@ module _ (f : ℕ) (small : f ≤ 255) (address : ℕ) (start : Bool) (p : Phase
     read_passes :
         (stop continues : Bool)
         → (continues && stop) ≡ false
-        → inspected f (read_list address n start stop continues) (phase_number p) ≡ Passes (leaves stop (after_read continues))
+        → inspected f (read_list address n start stop continues) (phase_number p) ≡ Some (leaves stop (after_read continues))
     unfolding inspected
     read_passes stop continues c =
         ap verdict_of (in_its_phase p _ ∙ built_read f small done address n start stop continues p willing some fits h c)
@@ -61,7 +61,7 @@ module _ (f : ℕ) (small : f ≤ 255) (address : ℕ) (start : Bool) (p : Phase
     pub builder_read_verdict :
         (stop continues : Bool)
         → inspected f (read_list address n start stop continues) (phase_number p)
-        ≡ cond (continues && stop) Refused (Passes (leaves stop (after_read continues)))
+        ≡ cond (continues && stop) None (Some (leaves stop (after_read continues)))
     unfolding inspected
     builder_read_verdict true true =
         ap verdict_of (in_its_phase p _ ∙ built_read_stuck f small done address n start p willing some fits h)

@@ -1,5 +1,6 @@
 -- Our planner meets what is asked of a planner; each wrong one is refuted.
 -- Assumes nothing.
+use Rattle.std.specs.Prelude.{Some}
 use Prim.Native.Nat.{ℕ}
 use native.Mathlib.Omega.{arith}
 use mathlib.Core.Path.{◌≡◌, refl, ap, ◌∙◌}
@@ -12,7 +13,6 @@ use Rattle.chunks.specs.Pieces.{piece_of, pieces_by, pieces}
 use Rattle.command.specs.Word.{meaning_of, within}
 use Rattle.list.specs.Lists.{sent_bytes, write_fifo, write_commands, read_fifo, read_commands, padded, listed, unlisted, write_of, read_of, write_step_of, read_step_of}
 use Rattle.controller.specs.declared.Phase.TheVariants.{Idle}
-use Rattle.controller.specs.declared.inspector.Verdict.TheVariants.{Passes}
 use Rattle.controller.specs.Rules.{effect_of}
 use Rattle.controller.specs.Model.{put, get, obey, run_from, run_list, run_lists, events_of}
 use Rattle.controller.specs.Verdicts.{willing, verdict_of}
@@ -27,7 +27,7 @@ pub ours_puts_traffic : PutsTraffic our_planner
 unfolding planned_run
 ours_puts_traffic address os k known = plan_traffic 32 31 (omega arith) (omega arith) (omega arith) address known os k
 
-passes_over : (es : List Event) (sends : List ℕ) → verdict_of (meets es sends 0) ≡ Passes Idle
+passes_over : (es : List Event) (sends : List ℕ) → verdict_of (meets es sends 0) ≡ Some Idle
 unfolding meets
 passes_over [] sends = refl
 passes_over (start_bit ∷ es) sends = passes_over es sends

@@ -1,11 +1,11 @@
 -- DEMAND 1 for the calls of a transaction: a refusal keeps the record, and nothing but success writes the read buffer.
 -- Assumes nothing.
+use Rattle.std.specs.Prelude.{None}
 use Prim.Native.Nat.{ℕ}
 use native.Mathlib.Omega.{arith}
 use mathlib.Core.Path.{◌≡◌, refl, ap}
 use mathlib.Core.List.{List, [], ◌∷◌}
 use lib.ListN.{length}
-use Rattle.outcome.specs.declared.Due.TheVariants.{Never}
 use Rattle.outcome.specs.declared.Snapshot.{Snapshot}
 use Rattle.outcome.specs.Packed.{unpacked}
 use Rattle.script.specs.Scripts.{script_of}
@@ -31,7 +31,7 @@ refusals_keep_buffer p address script s received buffer h = rw h
 pub clears_first_refuted : KeepsBuffer clears_first → ⊥
 unfolding script_of complete_of buffer_of
 clears_first_refuted h =
-    let same : ◌≡◌ {A = List ℕ} (0 ∷ []) (7 ∷ []) = h (accepted Never) 128 [] quiet [] (7 ∷ []) refl in
+    let same : ◌≡◌ {A = List ℕ} (0 ∷ []) (7 ∷ []) = h (accepted None) 128 [] quiet [] (7 ∷ []) refl in
     absurd (omega (arith, ap first same))
   where
     quiet : Snapshot

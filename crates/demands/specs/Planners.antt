@@ -1,11 +1,9 @@
 -- What is asked of a planner, and planners that are wrong. A planner gives the lists for an address and operations, in the base's sizes.
-use Rattle.std.specs.Prelude.{ℕ, ◌≤◌, ◌≡◌, false, List, [], ◌∷◌, ◌++◌, map, take, drop, replicate}
+use Rattle.std.specs.Prelude.{ℕ, ◌≤◌, ◌≡◌, false, List, [], ◌∷◌, ◌++◌, map, take, drop, replicate, Option, Some, None}
 use Rattle.bus.specs.Operations.{Operation, write, read, kept}
 use Rattle.bus.specs.Traffic.{traffic, cut}
 use Rattle.controller.specs.declared.Phase.{Phase}
 use Rattle.controller.specs.declared.Phase.TheVariants.{Idle}
-use Rattle.controller.specs.declared.inspector.Verdict.{Verdict}
-use Rattle.controller.specs.declared.inspector.Verdict.TheVariants.{Passes, Refused}
 use Rattle.controller.specs.Model.{Sensor, Commands, run_lists, phase_number, events_of}
 use Rattle.controller.specs.Verdicts.{inspected}
 use Rattle.turns.specs.Steps.{Step, write_step, read_step, nothing, steps_from}
@@ -19,16 +17,16 @@ abbrev pub our_planner : Planner
 our_planner address os = map held (planned 32 31 address os)
 
 -- demand 3: "Every planned list passes in its turn from Idle"
-abbrev pub passing_on : Verdict → (Phase → Verdict) → Verdict
-passing_on Refused next = Refused
-passing_on (Passes p) next = next p
+abbrev pub passing_on : Option Phase → (Phase → Option Phase) → Option Phase
+passing_on None next = None
+passing_on (Some p) next = next p
 
-unfoldable pub in_turn : ℕ → List Commands → Phase → Verdict
-in_turn f [] p = Passes p
+unfoldable pub in_turn : ℕ → List Commands → Phase → Option Phase
+in_turn f [] p = Some p
 in_turn f (l ∷ ls) p = passing_on (inspected f l (phase_number p)) (λ q. in_turn f ls q)
 
 abbrev pub PassesInTurn : Planner → Type 0
-PassesInTurn plan = (address : ℕ) (os : List Operation) → address ≤ 127 → in_turn 32 (plan address os) Idle ≡ Passes Idle
+PassesInTurn plan = (address : ℕ) (os : List Operation) → address ≤ 127 → in_turn 32 (plan address os) Idle ≡ Some Idle
 
 -- demands 2 and 3: "the bus traffic equals a definition written from UM10204", for every sensor
 abbrev pub PutsTraffic : Planner → Type 0

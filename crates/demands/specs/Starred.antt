@@ -1,18 +1,17 @@
 -- Document 01's starred cases: one table, a row an equation between what a definition gives and what the document says.
-use Rattle.std.specs.Prelude.{ℕ, ◌≡◌, Bool, true, false, List, [], ◌∷◌, map, take, drop, replicate}
+use Rattle.refusal.specs.declared.Refusal.{Refusal}
+use Rattle.std.specs.Prelude.{ℕ, ◌≡◌, Bool, true, false, List, [], ◌∷◌, map, take, drop, replicate, Some, None, Result, Ok, Err}
 use Rattle.bus.specs.Operations.{Operation, write, read}
 use Rattle.chunks.specs.Pieces.{pieces}
 use Rattle.refusal.specs.declared.Refusal.TheVariants.{ZeroLengthInvalid, FifoExceeded}
 use Rattle.refusal.specs.Numbers.{number_of}
 use Rattle.list.specs.declared.Answer.{Answer}
-use Rattle.list.specs.declared.Answer.TheVariants.{Listed, Refused}
+use Rattle.list.specs.declared.Answer.TheVariants.{Listed}
 use Rattle.list.specs.declared.CommandList.{CommandList}
 use Rattle.list.specs.Lists.{write_of, read_of}
 use Rattle.script.specs.Scripts.{Script, asks, refused, script_of}
 use Rattle.turns.specs.Plan.{planned}
 use Rattle.controller.specs.declared.Phase.TheVariants.{Idle, Reading}
-use Rattle.controller.specs.declared.inspector.Verdict.TheVariants.{Passes}
-use Rattle.controller.specs.declared.inspector.Verdict.TheVariants as verdict
 use Rattle.controller.specs.Model.{Commands, phase_number}
 use Rattle.controller.specs.Verdicts.{inspected}
 use Rattle.bus_clear.specs.declared.State.TheVariants.{SendStop}
@@ -21,7 +20,6 @@ use Rattle.bus_clear.specs.Clear.{step_of}
 use Rattle.bus_clear.specs.Runs.{Sample}
 use Rattle.outcome.specs.declared.Outcome.TheVariants.{Done}
 use Rattle.outcome.specs.declared.Snapshot.{Snapshot}
-use Rattle.outcome.specs.declared.Due.TheVariants.{Never}
 use Rattle.outcome.specs.Answers.{answer_of, answering}
 use Rattle.outcome.specs.Outcomes.{errors_of, poll_of, commands_of}
 use Rattle.demands.specs.Built.{held}
@@ -51,10 +49,10 @@ abbrev pub address : ℕ
 address = 0x29
 
 -- the builder's answer to a write of n bytes, and to a read of n
-abbrev pub write_answer : ℕ → Bool → Answer
+abbrev pub write_answer : ℕ → Bool → Result Answer Refusal
 write_answer n start = (write_of fifo address (replicate n 7) start true).answer
 
-abbrev pub read_as : ℕ → Bool → Answer
+abbrev pub read_as : ℕ → Bool → Result Answer Refusal
 read_as n continues = (read_of fifo address n true false continues).answer
 
 -- the lists of a script, and the words of the lists of operations
@@ -115,17 +113,17 @@ starred =
     ∷ list (0x3000 ∷ 0x0901 ∷ 0x1801 ∷ 0x1C01 ∷ 0x1000 ∷ 0 ∷ 0 ∷ 0 ∷ []) (0x53 ∷ [])
     ∷ []))
     -- K3: write limit: 31 with start passes, 32 gives 3; without, 32 passes, 33 gives 3
-    ∷ (write_answer 31 true is Listed)
-    ∷ (write_answer 32 true is Refused FifoExceeded)
-    ∷ (write_answer 32 false is Listed)
-    ∷ (write_answer 33 false is Refused FifoExceeded)
+    ∷ (write_answer 31 true is Ok Listed)
+    ∷ (write_answer 32 true is Err FifoExceeded)
+    ∷ (write_answer 32 false is Ok Listed)
+    ∷ (write_answer 33 false is Err FifoExceeded)
     -- K4: read: 0 gives 2; continuing 32 passes, 33 gives 3; ending 31 passes, 32 gives 3
-    ∷ (read_as 0 true is Refused ZeroLengthInvalid)
-    ∷ (read_as 0 false is Refused ZeroLengthInvalid)
-    ∷ (read_as 32 true is Listed)
-    ∷ (read_as 33 true is Refused FifoExceeded)
-    ∷ (read_as 31 false is Listed)
-    ∷ (read_as 32 false is Refused FifoExceeded)
+    ∷ (read_as 0 true is Err ZeroLengthInvalid)
+    ∷ (read_as 0 false is Err ZeroLengthInvalid)
+    ∷ (read_as 32 true is Ok Listed)
+    ∷ (read_as 33 true is Err FifoExceeded)
+    ∷ (read_as 31 false is Ok Listed)
+    ∷ (read_as 32 false is Err FifoExceeded)
     ∷ (map number_of (ZeroLengthInvalid ∷ FifoExceeded ∷ []) is (2 ∷ 3 ∷ []))
     -- K5: lone empty write: 3000 0901 1000
     ∷ ((write_of fifo address [] true true).list.words is (0x3000 ∷ 0x0901 ∷ 0x1000 ∷ 0 ∷ 0 ∷ 0 ∷ 0 ∷ 0 ∷ []))
@@ -136,8 +134,8 @@ starred =
     ∷ (drop 1 (planned_words (write (7 ∷ []) ∷ write [] ∷ [])) is ((0x1000 ∷ 0x2000 ∷ 0 ∷ 0 ∷ 0 ∷ 0 ∷ 0 ∷ 0 ∷ []) ∷ []))
     -- K8: nack with arbitration lost is 9; done with time_out: the poll succeeds, the command check gives 11
     ∷ (answer_of (errors_of nack_and_lost) is answering 9 3)
-    ∷ (poll_of done_and_timed_out Never is Done)
-    ∷ (answer_of (commands_of done_and_timed_out Never) is answering 11 0)
+    ∷ (poll_of done_and_timed_out None is Done)
+    ∷ (answer_of (commands_of done_and_timed_out None) is answering 11 0)
     -- K10: SDA always low: Idle after 20 acting polls, 9 falls, 10 rises of SCL; released at the 3rd rise: 6 acting polls, 2 falls
     ∷ ((polled_with step_of (always_low 19) fresh).state is SendStop)
     ∷ ((polled_with step_of (always_low 20) fresh).state is clear.Idle)
@@ -147,6 +145,6 @@ starred =
     ∷ ((polled_with step_of (third_rise 6) fresh).state is clear.Idle)
     ∷ (falls (made_with step_of (third_rise 6) fresh) is 2)
     -- K11: 1C01 1000: stuck from Idle, passes from Reading
-    ∷ (inspected fifo last_byte_and_stop (phase_number Idle) is verdict.Refused)
-    ∷ (inspected fifo last_byte_and_stop (phase_number Reading) is Passes Idle)
+    ∷ (inspected fifo last_byte_and_stop (phase_number Idle) is None)
+    ∷ (inspected fifo last_byte_and_stop (phase_number Reading) is Some Idle)
     ∷ []

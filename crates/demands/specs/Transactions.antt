@@ -1,9 +1,9 @@
 -- What is asked of the four calls of a transaction, and calls that are wrong.
-use Rattle.std.specs.Prelude.{ℕ, ◌≤◌, ◌≡◌, Bool, true, false, List, [], ◌∷◌, ◌++◌, length, take, drop, replicate}
+use Rattle.outcome.specs.declared.Outcome.{Outcome}
+use Rattle.std.specs.Prelude.{ℕ, ◌≤◌, ◌≡◌, Bool, true, false, List, [], ◌∷◌, ◌++◌, length, take, drop, replicate, Option, Result, Ok, Err}
 use Rattle.bus.specs.Operations.{Operation}
 use Rattle.refusal.specs.declared.Refusal.{Refusal}
 use Rattle.refusal.specs.declared.Refusal.TheVariants.{OutOfTurn}
-use Rattle.outcome.specs.declared.Due.{Due}
 use Rattle.outcome.specs.declared.Error.{Error}
 use Rattle.outcome.specs.declared.Outcome.TheVariants.{Pending, Done, Failed}
 use Rattle.outcome.specs.declared.Snapshot.{Snapshot}
@@ -21,13 +21,8 @@ use Rattle.transaction.specs.declared.Beginning.TheVariants as beginning
 use Rattle.transaction.specs.declared.Handing.{Handing}
 use Rattle.transaction.specs.declared.Handing.TheVariants as handing
 use Rattle.transaction.specs.declared.Handed.{Handed}
-use Rattle.transaction.specs.declared.Completion.{Completion}
-use Rattle.transaction.specs.declared.Completion.TheVariants as completion
 use Rattle.transaction.specs.declared.Completed.{Completed}
-use Rattle.transaction.specs.declared.Abandonment.TheVariants as abandonment
 use Rattle.transaction.specs.declared.Abandoned.{Abandoned}
-use Rattle.transaction.specs.declared.Timing.{Timing}
-use Rattle.transaction.specs.declared.Timing.TheVariants.{Told, OutOfRange}
 use Rattle.transaction.specs.Deadlines.{due_of}
 use Rattle.transaction.specs.Calls.{no_list, begin_of, next_of, complete_of, buffer_of, abandon_of, succeeded}
 
@@ -47,19 +42,19 @@ our_calls = record { begin = begin_of; next = next_of; complete = complete_of; b
 pub record KeepsState (k : Calls) : Type 0 where
   pub by_begin :
       (p : Progress) (settings : Settings) (address : ℕ) (script : List ℕ) (room : ℕ) (busy : Bool) (time : ℕ) (r : Refusal)
-      → (k.begin p settings address script room busy time).answer ≡ beginning.Refused r
+      → (k.begin p settings address script room busy time).answer ≡ Err r
       → (k.begin p settings address script room busy time).progress ≡ p
   pub by_next :
       (p : Progress) (settings : Settings) (address : ℕ) (script : List ℕ) (time : ℕ) (r : Refusal)
-      → (k.next p settings address script time).answer ≡ handing.Refused r
+      → (k.next p settings address script time).answer ≡ Err r
       → ((k.next p settings address script time).progress ≡ p) × ((k.next p settings address script time).list ≡ no_list)
   pub by_complete :
       (p : Progress) (address : ℕ) (script : List ℕ) (s : Snapshot) (received buffer : List ℕ) (r : Refusal)
-      → (k.complete p address script s received buffer).answer ≡ completion.Refused r
+      → (k.complete p address script s received buffer).answer ≡ Err r
       → (k.complete p address script s received buffer).progress ≡ p
   pub by_abandon :
       (p : Progress) (s : Snapshot) (r : Refusal)
-      → (k.abandon p s).answer ≡ abandonment.Refused r
+      → (k.abandon p s).answer ≡ Err r
       → (k.abandon p s).progress ≡ p
 
 -- "No refusal writes the read buffer", 8 to 11 included; and a list that is pending does not either
@@ -79,26 +74,26 @@ pub record Round : Type 0 where
 -- what comes of it: the lists, the answer to the last call for one, and the read buffer
 pub record Course : Type 0 where
   pub lists : List CommandList
-  pub ends : Handing
+  pub ends : Result Handing Refusal
   pub buffer : List ℕ
 
 abbrev pub listed : CommandList → Course → Course
 listed l c = record { lists = l ∷ c.lists; ends = c.ends; buffer = c.buffer }
 
-abbrev pub ending : Handing → List ℕ → Course
+abbrev pub ending : Result Handing Refusal → List ℕ → Course
 ending answer buffer = record { lists = []; ends = answer; buffer = buffer }
 
 -- a list at a time, each completed before the next is asked for; where a list does not succeed, that is the end
-abbrev pub afterwards : Completion → Handing → List ℕ → Course → Course
-afterwards (completion.Told Done) answer buffer rest = rest
-afterwards (completion.Told Pending) answer buffer rest = ending answer buffer
-afterwards (completion.Told (Failed e)) answer buffer rest = ending answer buffer
-afterwards (completion.Refused r) answer buffer rest = ending answer buffer
+abbrev pub afterwards : Result Outcome Refusal → Result Handing Refusal → List ℕ → Course → Course
+afterwards (Ok Done) answer buffer rest = rest
+afterwards (Ok Pending) answer buffer rest = ending answer buffer
+afterwards (Ok (Failed e)) answer buffer rest = ending answer buffer
+afterwards (Err r) answer buffer rest = ending answer buffer
 
-abbrev pub given : Handing → CommandList → List ℕ → Course → Course
-given handing.Listed l buffer rest = listed l rest
-given handing.NoneLeft l buffer rest = ending handing.NoneLeft buffer
-given (handing.Refused r) l buffer rest = ending (handing.Refused r) buffer
+abbrev pub given : Result Handing Refusal → CommandList → List ℕ → Course → Course
+given (Ok handing.Listed) l buffer rest = listed l rest
+given (Ok handing.NoneLeft) l buffer rest = ending (Ok handing.NoneLeft) buffer
+given (Err r) l buffer rest = ending (Err r) buffer
 
 unfoldable pub course : Calls → Settings → ℕ → List ℕ → Progress → List ℕ → List Round → Course
 course k settings address script p buffer [] = ending (k.next p settings address script 0).answer buffer
@@ -114,11 +109,11 @@ course k settings address script p buffer (r ∷ rs) =
     rs))
 
 -- rounds that succeed: a time that 64 bits can tell, a snapshot of success, and all the bytes that the list reads
-abbrev pub goes_well : Timing → Snapshot → Bool
-goes_well OutOfRange s = false
-goes_well (Told due) s = succeeds (classify_of s false due).outcome
+abbrev pub goes_well : Result (Option ℕ) Refusal → Snapshot → Bool
+goes_well (Err r) s = false
+goes_well (Ok due) s = succeeds (classify_of s false due).outcome
 
-abbrev pub Succeed : Settings → Due → List Step → List Round → Type 0
+abbrev pub Succeed : Settings → Option ℕ → List Step → List Round → Type 0
 Succeed settings fixed [] [] = Unit {0}
 Succeed settings fixed [] (r ∷ rs) = ⊥
 Succeed settings fixed (t ∷ ts) [] = ⊥
@@ -133,10 +128,10 @@ gathered [] rs = []
 gathered (t ∷ ts) [] = []
 gathered (t ∷ ts) (r ∷ rs) = take (receives t) r.received ++ gathered ts rs
 
-abbrev pub is_accepted : Beginning → Bool
-is_accepted beginning.Ready = true
-is_accepted beginning.ClearFirst = true
-is_accepted (beginning.Refused r) = false
+abbrev pub is_accepted : Result Beginning Refusal → Bool
+is_accepted (Ok beginning.Ready) = true
+is_accepted (Ok beginning.ClearFirst) = true
+is_accepted (Err r) = false
 
 -- "begin, then next list and completion in turn with successful snapshots, hand out exactly the plan's lists in order, then none left;
 -- the read buffer at the end holds the received bytes in order and its old contents beyond"
@@ -150,7 +145,7 @@ HandsOutPlan k =
     → course k settings address script (k.begin before settings address script (length buffer) busy time).progress buffer rs
     ≡ record {
       lists = planned 32 31 address os;
-      ends = handing.NoneLeft;
+      ends = Ok handing.NoneLeft;
       buffer = gathered (turns_of 31 os) rs ++ drop (read_total os) buffer;
     }
 
@@ -162,10 +157,10 @@ pub data Later : Type 0 where
   abandons : Snapshot → Later
 
 -- the record after calls, and whether one of them has handed out a list
-abbrev pub is_list : Handing → Bool
-is_list handing.Listed = true
-is_list handing.NoneLeft = false
-is_list (handing.Refused r) = false
+abbrev pub is_list : Result Handing Refusal → Bool
+is_list (Ok handing.Listed) = true
+is_list (Ok handing.NoneLeft) = false
+is_list (Err r) = false
 
 unfoldable pub none_listed : Calls → Progress → List Later → Type 0
 none_listed k p [] = Unit {0}
@@ -179,11 +174,11 @@ none_listed k p (abandons s ∷ ls) = none_listed k (k.abandon p s).progress ls
 pub record FailedEnds (k : Calls) : Type 0 where
   pub by_complete :
       (p : Progress) (address : ℕ) (script : List ℕ) (s : Snapshot) (received buffer : List ℕ) (e : Error) (ls : List Later)
-      → (k.complete p address script s received buffer).answer ≡ completion.Told (Failed e)
+      → (k.complete p address script s received buffer).answer ≡ Ok (Failed e)
       → none_listed k (k.complete p address script s received buffer).progress ls
   pub by_abandon :
       (p : Progress) (s : Snapshot) (ls : List Later)
-      → ((k.abandon p s).answer ≡ abandonment.Refused OutOfTurn → ⊥)
+      → ((k.abandon p s).answer ≡ Err OutOfTurn → ⊥)
       → none_listed k (k.abandon p s).progress ls
 
 -- WRONG CALLS

@@ -12,132 +12,115 @@
 
 ghost use Rattle.std.specs.Prelude.{◌<◌};
 
+use arrayvec::ArrayVec;
+use plan::{Mode, Numbers, Plan};
 use std::io::{self, Read, Write};
 
 mod calls;
 mod plan;
 mod told;
 
-// What a line has said so far: how many numbers have ended, the number at hand, how many bytes the script has, and whether half of its
-// next byte is there.
-#[derive(Clone, Copy)]
-struct Place {
+// The longest script that is answered.
+const SCRIPT: usize = 4352;
+
+// What a line has said so far: its numbers, how many of them have ended, and the number at hand; the script, and the first digit of its
+// next byte.
+// Kept: an array with `ended` beside it: a number that a line does not say is that of the lines before.
+#[derive(Drop)]
+struct Question {
+    numbers: Numbers,
     ended: usize,
     number: u64,
-    length: usize,
-    half: bool,
-}
-
-const NUMBERS: usize = 15;
-
-fn line_start() -> Place {
-    Place {
-        ended: 0,
-        number: 0,
-        length: 0,
-        half: false,
-    }
-}
-
-fn answer(out: &mut impl Write, fields: &[u64; 15], script: &[u8]) -> io::Result<()> {
-    if fields[plan::MODE] == 2 {
-        if script.len() > 0 {
-            calls::answer_starts(out, fields, script[0])?;
-        }
-        return Ok(());
-    }
-    calls::answer(out, fields, script)
+    script: ArrayVec<u8, SCRIPT>,
+    high: Option<u8>,
 }
 
 // The value of a hex digit, and 0 of anything else.
+// Kept: `to_digit` gives uppercase letters values too. `replay` has the same function, since programs share no code but libraries'.
 fn digit(b: u8) -> u8
     ensures { result < 16 }
 {
-    if b >= b'0' {
-        if b <= b'9' {
-            return b - b'0';
-        }
+    match b {
+        b'0'..=b'9' => b - b'0',
+        b'a'..=b'f' => b - b'a' + 10,
+        _ => 0,
     }
-    if b >= b'a' {
-        if b <= b'f' {
-            return b - b'a' + 10;
-        }
-    }
-    0
 }
 
-// A digit of the script. Bytes for which there is no room are lost.
-fn take_digit(script: &mut [u8], place: Place, value: u8) -> Place {
-    let mut next = place;
-    if !place.half {
-        next.number = value as u64;
-        next.half = true;
-        return next;
-    }
-    next.half = false;
-    let length = place.length;
-    if length < script.len() {
-        script[length] = (place.number % 16 * 16) as u8 + value % 16;
-        next.length = length + 1;
-    }
-    next
-}
-
-// A byte of a line, but its end.
-fn take_byte(fields: &mut [u64; 15], script: &mut [u8], place: Place, b: u8) -> Place {
-    let ended = place.ended;
-    if ended >= NUMBERS {
-        return take_digit(script, place, digit(b));
-    }
-    let mut next = place;
-    if b == b' ' {
-        fields[ended] = place.number;
-        next.ended = ended + 1;
-        next.number = 0;
-        return next;
-    }
-    next.number = place.number % 0x1000_0000_0000_0000 * 16 + digit(b) as u64;
-    next
-}
-
-fn answer_all(
-    out: &mut impl Write,
-    fields: &mut [u64; 15],
-    script: &mut [u8],
-    at_first: Place,
-    text: &[u8],
-) -> io::Result<Place> {
-    let mut place = at_first;
-    let mut i = 0;
-    while i < text.len() {
-        let b = text[i];
-        i += 1;
-        if b == b'\n' {
-            let length = place.length;
-            if length <= script.len() {
-                answer(out, fields, &script[0..length])?;
+impl Question {
+    // A digit of the script. Bytes for which there is no room are lost.
+    fn take_digit(&mut self, value: u8) {
+        match self.high.take() {
+            None => self.high = Some(value),
+            Some(high) => {
+                let _ = self.script.try_push(high % 16 * 16 + value % 16);
             }
-            place = line_start();
-        } else {
-            place = take_byte(fields, script, place, b);
         }
     }
-    Ok(place)
+
+    // A byte of a line, but its end.
+    fn take(&mut self, b: u8) {
+        let Some(number) = self.numbers.get_mut(self.ended) else {
+            self.take_digit(digit(b));
+            return;
+        };
+        if b == b' ' {
+            *number = self.number;
+            self.ended += 1;
+            self.number = 0;
+        } else {
+            self.number = self.number % 0x1000_0000_0000_0000 * 16 + u64::from(digit(b));
+        }
+    }
+
+    fn answer(&self, out: &mut impl Write) -> io::Result<()> {
+        let plan = Plan::from(self.numbers);
+        let script = self.script.as_slice();
+        match (plan.mode, script.first()) {
+            (Mode::Starts, None) => Ok(()),
+            (Mode::Starts, Some(first)) => calls::answer_starts(out, &plan, *first),
+            (Mode::Answer | Mode::Aloud, _) => calls::answer(out, &plan, script),
+        }
+    }
+
+    // The line is over.
+    fn restart(&mut self) {
+        self.ended = 0;
+        self.number = 0;
+        self.script.clear();
+        self.high = None;
+    }
+}
+
+fn answer_all(out: &mut impl Write, question: &mut Question, text: &[u8]) -> io::Result<()> {
+    for b in text {
+        if *b == b'\n' {
+            question.answer(out)?;
+            question.restart();
+        } else {
+            question.take(*b);
+        }
+    }
+    Ok(())
 }
 
 fn main(rt: HostRuntime) -> io::Result<()> {
     let mut input = rt.stdin();
     let mut out = rt.stdout();
-    let mut fields = [0u64; 15];
-    let mut script = [0u8; 4352];
-    let mut place = line_start();
-    let mut text = [0u8; 65536];
+    let mut question = Question {
+        numbers: [0; 15],
+        ended: 0,
+        number: 0,
+        script: ArrayVec::new(),
+        high: None,
+    };
+    let mut text = [0; 65536];
     for _ in 0..u64::MAX {
         let n = input.read(&mut text)?;
         if n == 0 {
             break;
         }
-        place = answer_all(&mut out, &mut fields, &mut script, place, &text[..n])?;
+        answer_all(&mut out, &mut question, &text[..n])?;
     }
     Ok(())
 }

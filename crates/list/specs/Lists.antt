@@ -1,14 +1,15 @@
 -- Command lists, after 01, "Command words and lists". What depends on the size of the FIFO takes it first: 32 in the base.
-use Rattle.std.specs.Prelude.{ℕ, zero, suc, ◌-◌, Bool, true, false, cond, not, ◌&&◌, List, [], ◌∷◌, ◌++◌, map, length, replicate, ltb, eqb}
+use Rattle.refusal.specs.declared.Refusal.{Refusal}
+use Rattle.std.specs.Prelude.{ℕ, zero, suc, ◌-◌, Bool, true, false, cond, not, ◌&&◌, List, [], ◌∷◌, ◌++◌, map, length, replicate, ltb, eqb, Result, Ok, Err}
 use Rattle.bus.specs.Events.{Event, start_bit, stop_bit, sent, got, Direction, to_sensor, from_sensor}
 use Rattle.bus.specs.Traffic.{opening}
 use Rattle.command.specs.declared.Command.{Command}
 use Rattle.command.specs.declared.Command.TheVariants.{Start, Write, Read, ReadNack, Stop, End}
 use Rattle.command.specs.Word.{encode_of}
-use Rattle.refusal.specs.Numbers.{number_of}
+use Rattle.refusal.specs.Numbers.{number_or}
 use Rattle.refusal.specs.declared.Refusal.TheVariants.{AddressInvalid, ZeroLengthInvalid, FifoExceeded}
 use Rattle.list.specs.declared.Answer.{Answer}
-use Rattle.list.specs.declared.Answer.TheVariants.{Listed, NoList, Refused}
+use Rattle.list.specs.declared.Answer.TheVariants.{Listed, NoList}
 use Rattle.list.specs.declared.Built.{Built}
 
 -- the bytes that the controller itself sends among these events
@@ -75,42 +76,44 @@ padded size l = l ++ replicate (size - length l) 0
 unfoldable pub listed : List Command → List ℕ → Built
 listed commands fifo =
     record {
-      answer = Listed;
+      answer = Ok Listed;
       list = record { words = padded 8 (map encode_of commands); fifo = padded 32 fifo; count = length fifo };
     }
 
 -- "A refusal returns eight zero words and no FIFO bytes where a list is due."
-unfoldable pub unlisted : Answer → Built
+unfoldable pub unlisted : Result Answer Refusal → Built
 unlisted answer =
     record { answer = answer; list = record { words = replicate 8 0; fifo = replicate 32 0; count = 0 } }
 
 -- "Builder order: 1, 2, 3": a write
 unfoldable pub write_of : ℕ → ℕ → List ℕ → Bool → Bool → Built
 write_of f address bytes start stop =
-    cond (invalid address) (unlisted (Refused AddressInvalid))
-    (cond (ltb (write_limit f address start) (length bytes)) (unlisted (Refused FifoExceeded))
+    cond (invalid address) (unlisted (Err AddressInvalid))
+    (cond (ltb (write_limit f address start) (length bytes)) (unlisted (Err FifoExceeded))
     (listed (write_commands address bytes start stop) (write_fifo address bytes start)))
 
 -- and a read of n
 unfoldable pub read_of : ℕ → ℕ → ℕ → Bool → Bool → Bool → Built
 read_of f address n start stop continues =
-    cond (invalid address) (unlisted (Refused AddressInvalid))
-    (cond (eqb n 0) (unlisted (Refused ZeroLengthInvalid))
-    (cond (ltb (read_limit f continues) n) (unlisted (Refused FifoExceeded))
+    cond (invalid address) (unlisted (Err AddressInvalid))
+    (cond (eqb n 0) (unlisted (Err ZeroLengthInvalid))
+    (cond (ltb (read_limit f continues) n) (unlisted (Err FifoExceeded))
     (listed (read_commands address n start stop continues) (read_fifo address start))))
 
 -- "An empty write with neither start nor stop, and any empty read, give no list and succeed (after the address check)."
 unfoldable pub write_step_of : ℕ → ℕ → List ℕ → Bool → Bool → Built
 write_step_of f address bytes start stop =
-    cond (not (invalid address) && (eqb (length bytes) 0 && (not start && not stop))) (unlisted NoList)
+    cond (not (invalid address) && (eqb (length bytes) 0 && (not start && not stop))) (unlisted (Ok NoList))
     (write_of f address bytes start stop)
 
 unfoldable pub read_step_of : ℕ → ℕ → ℕ → Bool → Bool → Bool → Built
 read_step_of f address n start stop continues =
-    cond (not (invalid address) && eqb n 0) (unlisted NoList) (read_of f address n start stop continues)
+    cond (not (invalid address) && eqb n 0) (unlisted (Ok NoList)) (read_of f address n start stop continues)
 
 -- the number of an answer: 0 for a list, 254 for none, and a refusal's own
-abbrev pub answer_number : Answer → ℕ
-answer_number Listed = 0
-answer_number NoList = 254
-answer_number (Refused r) = number_of r
+abbrev pub kind_number : Answer → ℕ
+kind_number Listed = 0
+kind_number NoList = 254
+
+abbrev pub answer_number : Result Answer Refusal → ℕ
+answer_number answer = number_or kind_number answer

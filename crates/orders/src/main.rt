@@ -15,20 +15,18 @@ mod print;
 mod records;
 mod scripts;
 
-use scripts::Call;
 use std::io;
 
 fn main(rt: HostRuntime) -> io::Result<()> {
     let mut out = rt.stdout();
     building::rows(&mut out)?;
-    scripts::rows(&mut out, Call::Begin)?;
+    scripts::rows(&mut |pair, request| beginning::row(&mut out, pair, request))?;
     beginning::rows(&mut out)?;
-    scripts::rows(&mut out, Call::NextList)?;
+    scripts::rows(&mut |pair, request| handing::row(&mut out, pair, request))?;
     handing::rows(&mut out)?;
-    scripts::rows(&mut out, Call::Completion)?;
+    scripts::rows(&mut |pair, request| completing::row(&mut out, pair, request))?;
     completing::rows(&mut out)?;
     outcomes::rows(&mut out)?;
     abandoning::rows(&mut out)?;
-    clearing::rows(&mut out)?;
-    Ok(())
+    clearing::rows(&mut out)
 }

@@ -1,6 +1,7 @@
 -- What is promised of outcomes, whatever else a snapshot holds: which of several faults is reported, when a wait ends, and that the
 -- numbers tell the answers apart.
 -- Assumes nothing.
+use Rattle.std.specs.Prelude.{Option, Some}
 use Prim.Native.Nat.{ℕ, ◌≤◌, ◌<◌}
 use mathlib.Core.Path.{◌≡◌, refl, sym, ap, ◌∙◌}
 use mathlib.Core.Bool.{true, false, cond}
@@ -13,8 +14,6 @@ use Rattle.outcome.specs.declared.Error.TheVariants.{ExecutionIncomplete, Acknow
 use Rattle.outcome.specs.declared.Outcome.{Outcome}
 use Rattle.outcome.specs.declared.Outcome.TheVariants.{Pending, Done, Failed}
 use Rattle.outcome.specs.declared.Snapshot.{Snapshot}
-use Rattle.outcome.specs.declared.Due.{Due}
-use Rattle.outcome.specs.declared.Due.TheVariants.{At}
 use Rattle.outcome.specs.declared.Answer.{Answer}
 
 module _ (s : Snapshot) where
@@ -36,7 +35,7 @@ module _ (s : Snapshot) where
 
   -- done together with a timeout: the poll succeeds, and the command check on the same snapshot gives 11
   pub done_and_timed_out_lem :
-      (due : Due)
+      (due : Option ℕ)
       → finished_of s ≡ true
       → errors_of s ≡ Failed Timeout
       → (poll_of s due ≡ Done) × (commands_of s due ≡ Failed Timeout) × ((classify_of s false due).outcome ≡ Failed Timeout)
@@ -48,7 +47,7 @@ module _ (s : Snapshot) where
       (time : ℕ)
       → finished_of s ≡ false
       → errors_of s ≡ Done
-      → (s.now ≤ time → poll_of s (At time) ≡ Pending) × (time < s.now → poll_of s (At time) ≡ Failed Timeout)
+      → (s.now ≤ time → poll_of s (Some time) ≡ Pending) × (time < s.now → poll_of s (Some time) ≡ Failed Timeout)
   unfolding poll_of
   deadline_strict time f e = ((λ h. simp (f, e, le-ltb time s.now h)), (λ h. simp (f, e, lt-ltb time s.now h)))
 

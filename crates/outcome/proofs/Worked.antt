@@ -1,5 +1,6 @@
 -- Document 01, "Outcomes", sentence by sentence, by computing.
 -- Assumes nothing.
+use Rattle.std.specs.Prelude.{Some, None}
 use Prim.Native.Nat.{ℕ}
 use mathlib.Core.Path.{◌≡◌, refl}
 use mathlib.Core.Bool.{true, false}
@@ -8,7 +9,6 @@ use Rattle.outcome.specs.declared.Reason.TheVariants.{Address, Data, Unknown}
 use Rattle.outcome.specs.declared.Error.TheVariants.{ExecutionIncomplete, AcknowledgeCheckFailed, ArbitrationLost, Timeout}
 use Rattle.outcome.specs.declared.Outcome.{Outcome}
 use Rattle.outcome.specs.declared.Outcome.TheVariants.{Pending, Done, Failed}
-use Rattle.outcome.specs.declared.Due.TheVariants.{Never, At}
 use Rattle.outcome.specs.Packed.{unpacked}
 use Rattle.outcome.specs.Answers.{answer_of, answering}
 use Rattle.outcome.specs.Outcomes.{errors_of, past_of, forgive_timeout, and_then, poll_of, slots_of, commands_of, classify_of, received_of}
@@ -38,32 +38,32 @@ unfolding errors_of
 errors_by_bit = (refl, refl)
 
 -- "now strictly past the deadline"
-pub strictly_past : map (past_of (At 5)) (4 ∷ 5 ∷ 6 ∷ []) ≡ false ∷ false ∷ true ∷ []
+pub strictly_past : map (past_of (Some 5)) (4 ∷ 5 ∷ 6 ∷ []) ≡ false ∷ false ∷ true ∷ []
 strictly_past = refl
 
-pub never_past : past_of Never 0xFFFFFFFFFFFFFFFF ≡ false
+pub never_past : past_of None 0xFFFFFFFFFFFFFFFF ≡ false
 never_past = refl
 
 -- "done means transfer complete or end detected. Done with 11 is success; done otherwise gives the error or success": complete, the end
 -- detected, either of them with time_out or past the deadline; with nack, with arbitration lost
 pub polled_when_done :
-    (poll_of (shown 96) Never ≡ Done)
-    × (poll_of (shown 128) Never ≡ Done)
-    × (poll_of (shown 112) Never ≡ Done)
-    × (poll_of (shown 144) Never ≡ Done)
-    × (poll_of (at 6 128) (At 5) ≡ Done)
-    × (poll_of (shown 129) Never ≡ Failed (AcknowledgeCheckFailed Unknown))
-    × (poll_of (shown 130) Never ≡ Failed ArbitrationLost)
+    (poll_of (shown 96) None ≡ Done)
+    × (poll_of (shown 128) None ≡ Done)
+    × (poll_of (shown 112) None ≡ Done)
+    × (poll_of (shown 144) None ≡ Done)
+    × (poll_of (at 6 128) (Some 5) ≡ Done)
+    × (poll_of (shown 129) None ≡ Failed (AcknowledgeCheckFailed Unknown))
+    × (poll_of (shown 130) None ≡ Failed ArbitrationLost)
 unfolding poll_of errors_of
 polled_when_done = (refl, refl, refl, refl, refl, refl, refl)
 
 -- "not done gives the error; no error and now strictly past the deadline gives 11; else pending"
 pub polled_before :
-    (poll_of (shown 16) Never ≡ Failed Timeout)
-    × (poll_of (at 6 2) (At 5) ≡ Failed ArbitrationLost)
-    × (poll_of (at 6 0) (At 5) ≡ Failed Timeout)
-    × (poll_of (at 5 0) (At 5) ≡ Pending)
-    × (poll_of (at 6 32) Never ≡ Pending)
+    (poll_of (shown 16) None ≡ Failed Timeout)
+    × (poll_of (at 6 2) (Some 5) ≡ Failed ArbitrationLost)
+    × (poll_of (at 6 0) (Some 5) ≡ Failed Timeout)
+    × (poll_of (at 5 0) (Some 5) ≡ Pending)
+    × (poll_of (at 6 32) None ≡ Pending)
 unfolding poll_of errors_of
 polled_before = (refl, refl, refl, refl, refl)
 
@@ -88,22 +88,22 @@ slots_in_order = (refl, refl, refl)
 
 -- "Then the command check: errors again, here 11 counts", then the slots, by the deadline
 pub checked_again :
-    (commands_of (shown 144) Never ≡ Failed Timeout)
-    × (commands_of (waited 6 (0x0901 ∷ [])) (At 5) ≡ Failed ExecutionIncomplete)
-    × (commands_of (waited 5 (0x0901 ∷ [])) (At 5) ≡ Pending)
-    × (commands_of (waited 6 (0x80000901 ∷ [])) (At 5) ≡ Done)
+    (commands_of (shown 144) None ≡ Failed Timeout)
+    × (commands_of (waited 6 (0x0901 ∷ [])) (Some 5) ≡ Failed ExecutionIncomplete)
+    × (commands_of (waited 5 (0x0901 ∷ [])) (Some 5) ≡ Pending)
+    × (commands_of (waited 6 (0x80000901 ∷ [])) (Some 5) ≡ Done)
 unfolding commands_of errors_of slots_of
 checked_again = (refl, refl, refl, refl)
 
 -- "Once a poll has succeeded, later snapshots for the list start at this check": nothing done yet; done, and a command that is not; the
 -- same command later, and done at last, each with no done bit set any more; all at once
 pub polled_once :
-    (classify_of (at 0 0) false Never ≡ record { outcome = Pending; polled = false })
-    × (classify_of (unpacked 128 (0x0901 ∷ []) 0) false Never ≡ record { outcome = Pending; polled = true })
-    × (classify_of (unpacked 0 (0x0901 ∷ []) 0) true Never ≡ record { outcome = Pending; polled = true })
-    × (classify_of (unpacked 0 (0x80000901 ∷ []) 0) true Never ≡ record { outcome = Done; polled = true })
-    × (classify_of (unpacked 0 (0x80000901 ∷ []) 0) false Never ≡ record { outcome = Pending; polled = false })
-    × (classify_of (unpacked 128 (0x80000901 ∷ []) 0) false Never ≡ record { outcome = Done; polled = true })
+    (classify_of (at 0 0) false None ≡ record { outcome = Pending; polled = false })
+    × (classify_of (unpacked 128 (0x0901 ∷ []) 0) false None ≡ record { outcome = Pending; polled = true })
+    × (classify_of (unpacked 0 (0x0901 ∷ []) 0) true None ≡ record { outcome = Pending; polled = true })
+    × (classify_of (unpacked 0 (0x80000901 ∷ []) 0) true None ≡ record { outcome = Done; polled = true })
+    × (classify_of (unpacked 0 (0x80000901 ∷ []) 0) false None ≡ record { outcome = Pending; polled = false })
+    × (classify_of (unpacked 128 (0x80000901 ∷ []) 0) false None ≡ record { outcome = Done; polled = true })
 unfolding classify_of poll_of commands_of errors_of slots_of
 polled_once = (refl, refl, refl, refl, refl, refl)
 

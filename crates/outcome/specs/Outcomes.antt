@@ -1,13 +1,11 @@
 -- What a snapshot of the controller means, after 01, "Outcomes". `Done` is success, and "no error" of a check.
-use Rattle.std.specs.Prelude.{ℕ, Bool, true, false, cond, not, ◌&&◌, ◌||◌, List, [], ◌∷◌, ltb, eqb}
+use Rattle.std.specs.Prelude.{ℕ, Bool, true, false, cond, not, ◌&&◌, ◌||◌, List, [], ◌∷◌, ltb, eqb, Option, Some, None}
 use Rattle.command.specs.Word.{opcode_of, done_of, end_opcode, stop_opcode}
 use Rattle.outcome.specs.declared.Reason.TheVariants.{Data, Unknown}
 use Rattle.outcome.specs.declared.Error.TheVariants.{ExecutionIncomplete, AcknowledgeCheckFailed, ArbitrationLost, Timeout}
 use Rattle.outcome.specs.declared.Outcome.{Outcome}
 use Rattle.outcome.specs.declared.Outcome.TheVariants.{Pending, Done, Failed}
 use Rattle.outcome.specs.declared.Snapshot.{Snapshot}
-use Rattle.outcome.specs.declared.Due.{Due}
-use Rattle.outcome.specs.declared.Due.TheVariants.{Never, At}
 use Rattle.outcome.specs.declared.Classified.{Classified}
 
 -- "transfer complete with resp_rec clear"
@@ -29,9 +27,9 @@ errors_of s =
     Done)))
 
 -- "now strictly past the deadline", which may be none
-abbrev pub past_of : Due → ℕ → Bool
-past_of Never now = false
-past_of (At time) now = ltb time now
+abbrev pub past_of : Option ℕ → ℕ → Bool
+past_of None now = false
+past_of (Some time) now = ltb time now
 
 -- "done means transfer complete or end detected"
 abbrev pub finished_of : Snapshot → Bool
@@ -53,7 +51,7 @@ and_then Done next = next
 and_then (Failed e) next = Failed e
 
 -- "Poll: .. not done gives the error; no error and now strictly past the deadline gives 11; else pending."
-unfoldable pub poll_of : Snapshot → Due → Outcome
+unfoldable pub poll_of : Snapshot → Option ℕ → Outcome
 poll_of s due =
     cond (finished_of s) (forgive_timeout (errors_of s))
     (and_then (errors_of s) (cond (past_of due s.now) (Failed Timeout) Pending))
@@ -68,7 +66,7 @@ slots_of past (word ∷ more) =
     (cond past (Failed ExecutionIncomplete) Pending)))
 
 -- "Then the command check: errors again, here 11 counts", then the slots
-unfoldable pub commands_of : Snapshot → Due → Outcome
+unfoldable pub commands_of : Snapshot → Option ℕ → Outcome
 commands_of s due = and_then (errors_of s) (slots_of (past_of due s.now) s.commands)
 
 abbrev pub succeeds : Outcome → Bool
@@ -78,7 +76,7 @@ succeeds (Failed e) = false
 
 -- "Once a poll has succeeded, later snapshots for the list start at this check." On the snapshot whose poll succeeds the check
 -- is made too
-unfoldable pub classify_of : Snapshot → Bool → Due → Classified
+unfoldable pub classify_of : Snapshot → Bool → Option ℕ → Classified
 classify_of s polled due =
     record {
       outcome = cond polled (commands_of s due) (and_then (poll_of s due) (commands_of s due));

@@ -1,17 +1,16 @@
 // What a snapshot of the controller means for the list that it executes.
 #![tactic(auto)]
 
-ghost use Rattle.std.specs.Prelude.{◌≡◌, cond};
-ghost use Rattle.outcome.specs.declared.Error.TheVariants.{Timeout};
-ghost use Rattle.outcome.specs.declared.Outcome.TheVariants.{Pending, Done, Failed};
+ghost use Rattle.std.specs.Prelude.{◌≡◌};
+ghost use Rattle.outcome.specs.declared.Outcome.{Outcome};
 ghost use Rattle.outcome.specs.Packed.{unpacked};
-ghost use Rattle.outcome.specs.Answers.{reason_of, error_answer, answer_of};
+ghost use Rattle.outcome.specs.Answers.{answer_of};
 ghost use Rattle.outcome.specs.Outcomes.{unanswered_of, timed_out_of, errors_of, past_of, finished_of, forgive_timeout, and_then, poll_of, slots_of, commands_of, classify_of, received_of};
 
 // Why a byte was not acknowledged.
 #[derive(Clone, Copy)]
 pub enum Reason {
-    Address,
+    Address = 1,
     Data,
     Unknown,
 }
@@ -26,6 +25,7 @@ pub enum Error {
 }
 
 // What a check or a poll finds. `Done` is success: no error, and nothing to wait for.
+// Kept: three findings in one, as definitions `errors_of`, `poll_of` and `classify_of` have them.
 #[derive(Clone, Copy)]
 pub enum Outcome {
     Pending,
@@ -48,14 +48,11 @@ pub struct Snapshot {
     pub now: u64,
 }
 
-// When a list is due, in microseconds.
-#[derive(Clone, Copy)]
-pub enum Due {
-    Never,
-    At(u64),
-}
+// When a list is due, in microseconds, if ever.
+pub type Due = Option<u64>;
 
 // What a snapshot means for a list, and whether the list's poll has succeeded by now.
+// Kept: `classify_of` promises both at once; after a poll that has succeeded the outcome may be any of the three.
 #[derive(Drop)]
 pub struct Classified {
     pub outcome: Outcome,
@@ -63,12 +60,14 @@ pub struct Classified {
 }
 
 // An outcome by document 01's numbers.
+// Kept: the C interface hands out these two numbers.
 #[derive(Drop)]
 pub struct Answer {
     pub number: u8,
     pub reason: u8,
 }
 
+// Kept: opcodes as `command::opcode` reads them, whatever the other bits are; a word need not be a command.
 const STOP: u32 = 2;
 
 const END: u32 = 4;
@@ -77,17 +76,18 @@ const END: u32 = 4;
 pub fn unpack(bits: u8, commands: [u32; 8], now: u64) -> Snapshot
     ensures { result ≡ unpacked bits commands now }
 {
+    let bit = |value: u8| bits / value % 2 == 1;
     Snapshot {
-        nack: bits % 2 == 1,
-        arbitration_lost: bits / 2 % 2 == 1,
-        scl_st_to: bits / 4 % 2 == 1,
-        scl_main_st_to: bits / 8 % 2 == 1,
-        time_out: bits / 16 % 2 == 1,
-        resp_rec: bits / 32 % 2 == 1,
-        trans_complete: bits / 64 % 2 == 1,
-        end_detect: bits / 128 % 2 == 1,
-        commands: commands,
-        now: now,
+        nack: bit(1),
+        arbitration_lost: bit(2),
+        scl_st_to: bit(4),
+        scl_main_st_to: bit(8),
+        time_out: bit(16),
+        resp_rec: bit(32),
+        trans_complete: bit(64),
+        end_detect: bit(128),
+        commands,
+        now,
     }
 }
 
@@ -102,13 +102,11 @@ fn is_unanswered(s: Snapshot) -> bool
 fn is_timed_out(s: Snapshot) -> bool
     ensures { result ≡ timed_out_of s }
 {
-    if s.scl_st_to {
-        return true;
-    }
-    s.scl_main_st_to || s.time_out
+    s.scl_st_to || s.scl_main_st_to || s.time_out
 }
 
 // The first error that holds.
+#[tactic(auto, unfolding(crate::specs::Outcomes::errors_of))]
 pub fn check_errors(s: Snapshot) -> Outcome
     ensures { result ≡ errors_of s }
 {
@@ -131,10 +129,7 @@ pub fn check_errors(s: Snapshot) -> Outcome
 pub fn is_past(due: Due, now: u64) -> bool
     ensures { result ≡ past_of due now }
 {
-    match due {
-        Due::Never => false,
-        Due::At(time) => time < now,
-    }
+    due.is_some_and(|time| time < now)
 }
 
 // The controller has finished the list, or has halted at its END.
@@ -144,128 +139,94 @@ pub fn is_done(s: Snapshot) -> bool
     s.trans_complete || s.end_detect
 }
 
-// Done and timed out: the list has completed, and was looked at too late.
-fn forgive_timeout(error: Outcome) -> Outcome
-    ensures { result ≡ forgive_timeout error }
-{
-    match error {
-        Outcome::Pending => Outcome::Pending,
-        Outcome::Done => Outcome::Done,
-        Outcome::Failed(cause) => match cause {
-            Error::Timeout => Outcome::Done,
-            Error::ExecutionIncomplete => Outcome::Failed(Error::ExecutionIncomplete),
-            Error::AcknowledgeCheckFailed(reason) => Outcome::Failed(Error::AcknowledgeCheckFailed(
-                reason,
-            )),
-            Error::ArbitrationLost => Outcome::Failed(Error::ArbitrationLost),
-        },
+impl Outcome {
+    // Done and timed out: the list has completed, and was looked at too late.
+    fn forgive_timeout(self) -> Outcome
+        ensures { result ≡ forgive_timeout self }
+    {
+        match self {
+            Outcome::Failed(Error::Timeout) => Outcome::Done,
+            other => other,
+        }
     }
-}
 
-// The wait for a list, by its error, whether the controller is done with it, and whether its time is past.
-fn poll_by(error: Outcome, done: bool, past: bool) -> Outcome
-    ensures { result ≡ cond done (forgive_timeout error) (and_then error (cond past (Failed Timeout) Pending)) }
-{
-    if done {
-        return forgive_timeout(error);
-    }
-    match error {
-        Outcome::Pending => Outcome::Pending,
-        Outcome::Failed(cause) => Outcome::Failed(cause),
-        Outcome::Done => {
-            if past {
-                return Outcome::Failed(Error::Timeout);
-            }
-            Outcome::Pending
+    // What follows a success; anything else stands.
+    fn and_then<F: FnOnce() -> Outcome>(self, rest: F) -> Outcome
+        requires { F.IsAlwaysCallable rest }
+        ensures { (next : Outcome) → ((r : Outcome) → F.post rest r → r ≡ next) → result ≡ and_then self next }
+    {
+        match self {
+            Outcome::Done => rest(),
+            other => other,
         }
     }
 }
 
 // The wait for a list.
+#[tactic(auto, unfolding(crate::specs::Outcomes::poll_of))]
 pub fn poll_completion(s: Snapshot, due: Due) -> Outcome
     ensures { result ≡ poll_of s due }
 {
-    poll_by(check_errors(s), is_done(s), is_past(due, s.now))
+    let error = check_errors(s);
+    if is_done(s) {
+        return error.forgive_timeout();
+    }
+    error.and_then(|| {
+        if is_past(due, s.now) {
+            Outcome::Failed(Error::Timeout)
+        } else {
+            Outcome::Pending
+        }
+    })
 }
 
 // The command slots in order, up to END or STOP; zeros are skipped. END itself need not be done: the controller does not mark it.
+#[tactic(auto, unfolding(crate::specs::Outcomes::slots_of), using(crate::proofs::Laws::slots))]
 fn walk_slots(commands: [u32; 8], past: bool) -> Outcome
     ensures { result ≡ slots_of past commands }
 {
-    let mut i = 0;
-    while i < 8 {
-        let word = commands[i];
-        i += 1;
-        if word != 0 {
-            let opcode = command::opcode(word);
-            if opcode == END {
-                return Outcome::Done;
+    for word in commands {
+        if word == 0 {
+            continue;
+        }
+        let opcode = command::opcode(word);
+        if opcode == END {
+            return Outcome::Done;
+        }
+        if !command::is_done(word) {
+            if past {
+                return Outcome::Failed(Error::ExecutionIncomplete);
             }
-            if !command::is_done(word) {
-                if past {
-                    return Outcome::Failed(Error::ExecutionIncomplete);
-                }
-                return Outcome::Pending;
-            }
-            if opcode == STOP {
-                return Outcome::Done;
-            }
+            return Outcome::Pending;
+        }
+        if opcode == STOP {
+            return Outcome::Done;
         }
     }
     Outcome::Done
 }
 
-fn check_by(error: Outcome, commands: [u32; 8], past: bool) -> Outcome
-    ensures { result ≡ and_then error (slots_of past commands) }
-{
-    match error {
-        Outcome::Pending => Outcome::Pending,
-        Outcome::Failed(cause) => Outcome::Failed(cause),
-        Outcome::Done => walk_slots(commands, past),
-    }
-}
-
 // The command check: errors again, and here a timeout counts; then every command up to the list's end has to be done.
+#[tactic(auto, unfolding(crate::specs::Outcomes::commands_of))]
 pub fn all_commands_done(s: Snapshot, due: Due) -> Outcome
     ensures { result ≡ commands_of s due }
 {
-    let commands = s.commands;
-    check_by(check_errors(s), commands, is_past(due, s.now))
-}
-
-// The wait for a list, which a list whose poll has succeeded has behind it.
-fn poll_unless(polled: bool, error: Outcome, done: bool, past: bool) -> Outcome
-    ensures { result ≡ cond polled Done (cond done (forgive_timeout error) (and_then error (cond past (Failed Timeout) Pending))) }
-{
-    if polled {
-        return Outcome::Done;
-    }
-    poll_by(error, done, past)
+    check_errors(s).and_then(|| walk_slots(s.commands, is_past(due, s.now)))
 }
 
 // What a snapshot means for a list whose poll has, or has not yet, succeeded.
+#[tactic(auto, unfolding(crate::specs::Outcomes::classify_of))]
 pub fn classify(s: Snapshot, polled: bool, due: Due) -> Classified
     ensures { result ≡ classify_of s polled due }
 {
-    let error = check_errors(s);
-    let past = is_past(due, s.now);
-    let poll = poll_unless(polled, error, is_done(s), past);
-    match poll {
-        Outcome::Pending => Classified {
-            outcome: Outcome::Pending,
-            polled: false,
-        },
-        Outcome::Failed(cause) => Classified {
-            outcome: Outcome::Failed(cause),
-            polled: false,
-        },
-        Outcome::Done => {
-            let commands = s.commands;
-            Classified {
-                outcome: check_by(error, commands, past),
-                polled: true,
-            }
-        }
+    let poll = if polled {
+        Outcome::Done
+    } else {
+        poll_completion(s, due)
+    };
+    Classified {
+        outcome: poll.and_then(|| all_commands_done(s, due)),
+        polled: matches!(poll, Outcome::Done),
     }
 }
 
@@ -279,52 +240,19 @@ pub fn read_all_from_fifo(wanted: usize, received: usize) -> Outcome
     Outcome::Done
 }
 
-fn reason_number(reason: Reason) -> u8
-    ensures { result ≡ reason_of reason }
-{
-    match reason {
-        Reason::Address => 1,
-        Reason::Data => 2,
-        Reason::Unknown => 3,
-    }
-}
+// For callers that know no enums.
+impl From<Outcome> for Answer {
+    ghost from_gives = { λ outcome answer. answer ≡ answer_of outcome };
 
-fn error_answer(error: Error) -> Answer
-    ensures { result ≡ error_answer error }
-{
-    match error {
-        Error::ExecutionIncomplete => Answer {
-            number: 8,
-            reason: 0,
-        },
-        Error::AcknowledgeCheckFailed(reason) => Answer {
-            number: 9,
-            reason: reason_number(reason),
-        },
-        Error::ArbitrationLost => Answer {
-            number: 10,
-            reason: 0,
-        },
-        Error::Timeout => Answer {
-            number: 11,
-            reason: 0,
-        },
-    }
-}
-
-// An outcome by document 01's numbers, for callers that know no enums.
-pub fn numbered(outcome: Outcome) -> Answer
-    ensures { result ≡ answer_of outcome }
-{
-    match outcome {
-        Outcome::Done => Answer {
-            number: 0,
-            reason: 0,
-        },
-        Outcome::Pending => Answer {
-            number: 255,
-            reason: 0,
-        },
-        Outcome::Failed(error) => error_answer(error),
+    fn from(outcome: Outcome) -> Answer {
+        let (number, reason) = match outcome {
+            Outcome::Done => (0, 0),
+            Outcome::Failed(Error::ExecutionIncomplete) => (8, 0),
+            Outcome::Failed(Error::AcknowledgeCheckFailed(reason)) => (9, reason as u8),
+            Outcome::Failed(Error::ArbitrationLost) => (10, 0),
+            Outcome::Failed(Error::Timeout) => (11, 0),
+            Outcome::Pending => (255, 0),
+        };
+        Answer { number, reason }
     }
 }

@@ -1,85 +1,60 @@
 // A list in words.
-use crate::print::{print, print_byte, print_number};
-use crate::words;
-use controller::inspector::Verdict;
-use list::CommandList;
+use crate::{refusals, words};
+use controller::{Commands, inspector};
 use outcome::Due;
+use refusal::Refusal;
 use std::io;
 use std::io::Write;
 
-// The first bytes, so many.
-pub(super) fn first_bytes(bytes: &[u8; 32], count: usize) -> &[u8] {
-    let all = &bytes[..];
-    if count > all.len() {
-        return all;
-    }
-    &all[0..count]
-}
+// No phase has this number.
+// Kept: a number, since `inspect` and `run` promise any number of a phase, and a list after a refused one comes in none.
+const NONE: u32 = 5;
 
 fn print_fifo(out: &mut impl Write, bytes: &[u8]) -> io::Result<()> {
-    if bytes.len() == 0 {
-        print(out, b" nothing")?;
+    write!(out, "  FIFO      ")?;
+    if bytes.is_empty() {
+        write!(out, " nothing")?;
     }
     for byte in bytes {
-        print(out, b" ")?;
-        print_byte(out, *byte)?;
+        write!(out, " {byte:02X}")?;
     }
-    Ok(())
+    writeln!(out)
 }
 
 fn print_due(out: &mut impl Write, due: Due) -> io::Result<()> {
     match due {
-        Due::Never => print(out, b" never"),
-        Due::At(time) => {
-            print(out, b" ")?;
-            print_number(out, time)?;
-            print(out, b" us")
-        }
-    }
-}
-
-// Prints the verdict, and answers the phase that the list leaves; of a refused one the phase is of no number.
-fn print_verdict(out: &mut impl Write, verdict: Verdict) -> io::Result<u32> {
-    match verdict {
-        Verdict::Passes(phase) => {
-            print(out, b"passes, leaves ")?;
-            words::print_phase(out, phase)?;
-            Ok(words::phase_number(phase))
-        }
-        Verdict::Refused => {
-            print(out, b"refused: 14 ListRefused")?;
-            Ok(5)
-        }
+        None => writeln!(out, "  due        never"),
+        Some(time) => writeln!(out, "  due        {time} us"),
     }
 }
 
 pub(super) fn print_heading(out: &mut impl Write, number: usize) -> io::Result<()> {
-    print(out, b"\nlist ")?;
-    print_number(out, number as u64)?;
-    print(out, b"\n")
+    writeln!(out, "\nlist {number}")
 }
 
 // Prints a list that comes in a phase, and answers the phase that it leaves.
 pub(super) fn print_list(
     out: &mut impl Write,
     number: usize,
-    list: &CommandList,
+    list: Commands<'_>,
     due: Due,
     phase: u32,
 ) -> io::Result<u32> {
-    let words = list.words;
-    let fifo = list.fifo;
-    let bytes = first_bytes(&fifo, list.count);
     print_heading(out, number)?;
-    print(out, b"  words      ")?;
-    words::print_words(out, words)?;
-    print(out, b"\n  FIFO      ")?;
-    print_fifo(out, bytes)?;
-    print(out, b"\n  due       ")?;
+    write!(out, "  words      ")?;
+    words::print_words(out, list.words)?;
+    writeln!(out)?;
+    print_fifo(out, list.fifo)?;
     print_due(out, due)?;
-    print(out, b"\n  inspector  ")?;
-    let verdict = controller::inspector::inspect(words, bytes, phase);
-    let leaves = print_verdict(out, verdict)?;
-    print(out, b"\n")?;
-    Ok(leaves)
+    write!(out, "  inspector  ")?;
+    match inspector::inspect(list, phase) {
+        Some(after) => {
+            writeln!(out, "passes, leaves {after}")?;
+            Ok(u32::from(u8::from(after)))
+        }
+        None => {
+            refusals::print_name(out, Refusal::ListRefused)?;
+            Ok(NONE)
+        }
+    }
 }

@@ -1,28 +1,30 @@
 // Refusals by number and name, with the place that they are about and what to do.
-ghost use Rattle.std.specs.Prelude.{◌≤◌};
-
-use crate::print::{print, print_number};
-use refusal::Refusal;
+use refusal::{Numbered, Refusal};
 use script::Record;
-use std::io;
 use std::io::Write;
+use std::{fmt, io};
 
-// What a refusal is about; a number is a place in the script.
-#[derive(Drop)]
-enum Trouble {
+// What a refusal is about.
+#[derive(Clone, Copy)]
+enum Place {
     Address,
-    NoHeader(usize),
-    Version,
-    LongBody,
-    OtherLength,
-    BadRecord(usize),
-    LongReads(usize),
-    Room,
+    Script(usize),
+    Buffer,
     Deadline,
-    Turn,
+    Calls,
 }
 
-const HEADER: usize = 3;
+impl fmt::Display for Place {
+    fn fmt<W: fmt::Write>(&self, f: &mut fmt::Formatter<W>) -> fmt::Result {
+        match self {
+            Place::Address => write!(f, "the address"),
+            Place::Script(at) => write!(f, "byte {at} of the script (the first is byte 0)"),
+            Place::Buffer => write!(f, "the read buffer"),
+            Place::Deadline => write!(f, "the deadline"),
+            Place::Calls => write!(f, "the calls"),
+        }
+    }
+}
 
 // No body is longer, and no more bytes are read in all.
 const MOST: usize = 4096;
@@ -30,180 +32,91 @@ const MOST: usize = 4096;
 // A body of 4,096 bytes has no more records, and its end.
 const RECORDS: usize = 1366;
 
-// More than any records can read.
-const ANY: usize = 0xFFFF_FFFF;
-
-fn print_name(out: &mut impl Write, refusal: Refusal) -> io::Result<()> {
-    match refusal {
-        Refusal::AddressInvalid => print(out, b" AddressInvalid"),
-        Refusal::ZeroLengthInvalid => print(out, b" ZeroLengthInvalid"),
-        Refusal::FifoExceeded => print(out, b" FifoExceeded"),
-        Refusal::Version => print(out, b" Version"),
-        Refusal::Shape => print(out, b" Shape"),
-        Refusal::Size => print(out, b" Size"),
-        Refusal::Room => print(out, b" Room"),
-        Refusal::OutOfTurn => print(out, b" OutOfTurn"),
-        Refusal::ClockRange => print(out, b" ClockRange"),
-        Refusal::ListRefused => print(out, b" ListRefused"),
-    }
-}
-
-// WHERE
-
-fn wide(b: u8) -> usize
-    ensures { result ≤ 255 }
-{
-    b as usize
-}
-
-// The body's length as the header has it.
-fn body_field(script: &[u8]) -> usize {
-    if script.len() < HEADER {
-        return 0;
-    }
-    wide(script[1]) * 256 + wide(script[2])
-}
+const HEADER: usize = 3;
 
 // The place of the first record that is bad, or with which more bytes are read than this many.
-fn first_record(script: &[u8], most: usize) -> usize {
-    let mut next: usize = HEADER;
-    let mut total: usize = 0;
-    let mut left: usize = RECORDS;
-    while left > 0 {
-        left -= 1;
-        let at = next;
+fn first_record(script: &[u8], most: usize) -> Place {
+    let mut at = HEADER;
+    let mut left = most;
+    for _ in 0..RECORDS {
         let step = script::next_record(script, at);
-        let found = step.found;
-        next = step.next;
-        match found {
-            Record::End => {
-                return at;
-            }
-            Record::Bad => {
-                return at;
-            }
+        match step.found {
+            Record::End | Record::Bad => break,
             Record::Write(_) => {}
-            Record::Read(n) => {
-                if n as usize > most - total {
-                    return at;
-                }
-                total += n as usize;
-            }
+            Record::Read(n) => match left.checked_sub(usize::from(n)) {
+                None => break,
+                Some(rest) => left = rest,
+            },
         }
+        at = step.next;
     }
-    next
+    Place::Script(at)
 }
 
-fn shape_trouble(script: &[u8]) -> Trouble {
-    if script.len() < HEADER {
-        return Trouble::NoHeader(script.len());
+fn of_shape(script: &[u8]) -> (Place, &'static str) {
+    let [_, high, low, body @ ..] = script else {
+        return (
+            Place::Script(script.len()),
+            "Begin with three bytes: the version, 01, and the length of the body in two.",
+        );
+    };
+    if usize::from(u16::from_be_bytes([*high, *low])) != body.len() {
+        return (
+            Place::Script(1),
+            "Put here, in two bytes, how many bytes follow the first three.",
+        );
     }
-    if body_field(script) != script.len() - HEADER {
-        return Trouble::OtherLength;
-    }
-    Trouble::BadRecord(first_record(script, ANY))
+    (
+        first_record(script, usize::MAX),
+        "Give this record two bytes of length, a kind, 00 to write or 01 to read, and all the bytes that it writes.",
+    )
 }
 
-fn size_trouble(script: &[u8]) -> Trouble {
-    if body_field(script) > MOST {
-        return Trouble::LongBody;
+fn of_size(script: &[u8]) -> (Place, &'static str) {
+    if let [_, high, low, ..] = script
+        && usize::from(u16::from_be_bytes([*high, *low])) > MOST
+    {
+        return (
+            Place::Script(1),
+            "Split the script: a body has at most 4,096 bytes (10 00).",
+        );
     }
-    Trouble::LongReads(first_record(script, MOST))
+    (
+        first_record(script, MOST),
+        "Split the script before this record: a script reads at most 4,096 bytes in all.",
+    )
 }
 
-fn trouble_of(refusal: Refusal, script: &[u8]) -> Trouble {
+// Where the trouble is, and what to do.
+fn advice(refusal: Refusal, script: &[u8]) -> (Place, &'static str) {
     match refusal {
-        Refusal::AddressInvalid => Trouble::Address,
-        Refusal::Version => Trouble::Version,
-        Refusal::Shape => shape_trouble(script),
-        Refusal::Size => size_trouble(script),
-        Refusal::Room => Trouble::Room,
-        Refusal::ClockRange => Trouble::Deadline,
-        Refusal::ZeroLengthInvalid => Trouble::Turn,
-        Refusal::FifoExceeded => Trouble::Turn,
-        Refusal::OutOfTurn => Trouble::Turn,
-        Refusal::ListRefused => Trouble::Turn,
+        Refusal::AddressInvalid => (
+            Place::Address,
+            "Give the seven bits of the address without the direction bit: 00 to 7F.",
+        ),
+        Refusal::Version => (Place::Script(0), "Begin with the version 01."),
+        Refusal::Shape => of_shape(script),
+        Refusal::Size => of_size(script),
+        Refusal::Room => (
+            Place::Buffer,
+            "Lend a read buffer for all bytes that the script reads.",
+        ),
+        Refusal::ClockRange => (
+            Place::Deadline,
+            "Ask for a shorter time: the sum with the clock has to fit 64 bits.",
+        ),
+        Refusal::ZeroLengthInvalid
+        | Refusal::FifoExceeded
+        | Refusal::OutOfTurn
+        | Refusal::ListRefused => (
+            Place::Calls,
+            "Ask for a list, complete it, and only then ask for the next.",
+        ),
     }
 }
 
-// WHAT TO DO
-
-fn print_place(out: &mut impl Write, place: usize) -> io::Result<()> {
-    print(out, b"  at byte ")?;
-    print_number(out, place as u64)?;
-    print(out, b" of the script (the first is byte 0)\n")
-}
-
-fn print_trouble(out: &mut impl Write, trouble: Trouble) -> io::Result<()> {
-    match trouble {
-        Trouble::Address => {
-            print(out, b"  at the address\n")?;
-            print(
-                out,
-                b"  Give the seven bits of the address without the direction bit: 00 to 7F.\n",
-            )
-        }
-        Trouble::NoHeader(place) => {
-            print_place(out, place)?;
-            print(
-                out,
-                b"  Begin with three bytes: the version, 01, and the length of the body in two.\n",
-            )
-        }
-        Trouble::Version => {
-            print_place(out, 0)?;
-            print(out, b"  Begin with the version 01.\n")
-        }
-        Trouble::LongBody => {
-            print_place(out, 1)?;
-            print(
-                out,
-                b"  Split the script: a body has at most 4,096 bytes (10 00).\n",
-            )
-        }
-        Trouble::OtherLength => {
-            print_place(out, 1)?;
-            print(
-                out,
-                b"  Put here, in two bytes, how many bytes follow the first three.\n",
-            )
-        }
-        Trouble::BadRecord(place) => {
-            print_place(out, place)?;
-            print(
-                out,
-                b"  Give this record two bytes of length, a kind, 00 to write or 01 to read, and all the bytes that it writes.\n",
-            )
-        }
-        Trouble::LongReads(place) => {
-            print_place(out, place)?;
-            print(
-                out,
-                b"  Split the script before this record: a script reads at most 4,096 bytes in all.\n",
-            )
-        }
-        Trouble::Room => {
-            print(out, b"  at the read buffer\n")?;
-            print(
-                out,
-                b"  Lend a read buffer for all bytes that the script reads.\n",
-            )
-        }
-        Trouble::Deadline => {
-            print(out, b"  at the deadline\n")?;
-            print(
-                out,
-                b"  Ask for a shorter time: the sum with the clock has to fit 64 bits.\n",
-            )
-        }
-        Trouble::Turn => {
-            print(out, b"  at the calls\n")?;
-            print(
-                out,
-                b"  Ask for a list, complete it, and only then ask for the next.\n",
-            )
-        }
-    }
+pub(super) fn print_name(out: &mut impl Write, refusal: Refusal) -> io::Result<()> {
+    writeln!(out, "refused: {} {refusal}", refusal.number())
 }
 
 pub(super) fn print_refusal(
@@ -211,9 +124,7 @@ pub(super) fn print_refusal(
     refusal: Refusal,
     script: &[u8],
 ) -> io::Result<()> {
-    print(out, b"refused: ")?;
-    print_number(out, refusal::number(refusal) as u64)?;
     print_name(out, refusal)?;
-    print(out, b"\n")?;
-    print_trouble(out, trouble_of(refusal, script))
+    let (place, what) = advice(refusal, script);
+    writeln!(out, "  at {place}\n  {what}")
 }

@@ -1,126 +1,68 @@
 // Words and numbers in a text.
-ghost use Rattle.std.specs.Prelude.{◌<◌, ◌≤◌, length};
+ghost use Rattle.std.specs.Prelude.{length, ◌≤◌};
+ghost use Rattle.std.specs.Iterator.{at_most};
 
+// The words of a text that are still to come, and the line of the last one, counted from 1; at the end, the text's last line.
 #[derive(Drop)]
-pub(super) enum Number {
-    Is(u64),
-    IsNone,
+pub(super) struct Words<'a> {
+    pub(super) rest: &'a [u8],
+    pub(super) line: usize,
 }
 
-const LAST_NUMBER: u64 = 0xFFFF_FFFF_FFFF_FFFF;
-
-fn is_blank(b: u8) -> bool {
-    match b {
-        b'\t' => true,
-        b'\n' => true,
-        b'\r' => true,
-        b' ' => true,
-        _ => false,
+impl<'a> Words<'a> {
+    pub(super) fn new(text: &'a [u8]) -> Words<'a> {
+        Words {
+            rest: text,
+            line: 1,
+        }
     }
 }
 
-fn is_in_comment(before: bool, b: u8) -> bool {
-    match b {
-        b'#' => true,
-        b'\n' => false,
-        _ => before,
-    }
-}
+impl<'a> Iterator for Words<'a> {
+    type Item = &'a [u8];
 
-// Where the next word starts, behind blanks, line ends and comments.
-pub(super) fn word_start(text: &[u8], at: usize) -> usize
-    requires { at ≤ length text.now }
-    ensures { (at ≤ result) × (result ≤ length text.now) }
-{
-    let mut i = at;
-    let mut comment = false;
-    while i < text.len() {
-        let b = text[i];
-        comment = is_in_comment(comment, b);
-        if !comment {
-            if !is_blank(b) {
-                return i;
+    ghost remaining = { λ s. at_most (length s.rest.now) };
+
+    fn next(&mut self) -> Option<&'a [u8]> {
+        let mut comment = false;
+        while let Some((first, behind)) = self.rest.split_first() {
+            match *first {
+                b'\n' => {
+                    self.line = self.line.saturating_add(1);
+                    comment = false;
+                }
+                b'#' => comment = true,
+                b'\t' | b'\r' | b' ' => {}
+                _ if comment => {}
+                _ => {
+                    let more = behind.iter().position(|b| ends_word(*b));
+                    let end = 1 + more.unwrap_or(behind.len());
+                    let (word, rest) = self.rest.split_at(end);
+                    self.rest = rest;
+                    return Some(word);
+                }
             }
+            self.rest = behind;
         }
-        i += 1;
+        None
     }
-    i
 }
 
-pub(super) fn word_end(text: &[u8], from: usize) -> usize
-    requires { from < length text.now }
-    ensures { (from < result) × (result ≤ length text.now) }
+fn ends_word(b: u8) -> bool {
+    matches!(b, b'\t' | b'\n' | b'\r' | b' ' | b'#')
+}
+
+// The number of 64 bits that a word writes in digits alone.
+// Kept: digit by digit, since `from_str_radix` would take a sign.
+pub(super) fn number_of(word: &[u8], radix: u32) -> Option<u64>
+    requires { (2 ≤ radix) × (radix ≤ 36) }
 {
-    let mut i = from + 1;
-    while i < text.len() {
-        let b = text[i];
-        if is_blank(b) || b == b'#' {
-            return i;
-        }
-        i += 1;
-    }
-    i
-}
-
-// The line of a place, counted from 1.
-pub(super) fn line_of(text: &[u8], at: usize) -> usize
-    requires { at ≤ length text.now }
-{
-    let mut line: usize = 0;
-    let mut i = 0;
-    while i < at {
-        if text[i] == b'\n' {
-            line += 1;
-        }
-        i += 1;
-    }
-    line + 1
-}
-
-// The value of a hex digit, and 16 of anything else.
-pub(super) fn digit(b: u8) -> u8
-    ensures { result ≤ 16 }
-{
-    match b {
-        b'0'..=b'9' => b - b'0',
-        b'a'..=b'f' => b - b'a' + 10,
-        b'A'..=b'F' => b - b'A' + 10,
-        _ => 16,
-    }
-}
-
-// A hex number of 32 bits.
-pub(super) fn hex_number(word: &[u8]) -> Number {
     let mut n: u64 = 0;
-    let mut i = 0;
-    while i < word.len() {
-        let d = digit(word[i]);
-        if d > 15 {
-            return Number::IsNone;
-        }
-        if n > 0xFFF_FFFF {
-            return Number::IsNone;
-        }
-        n = n * 16 + d as u64;
-        i += 1;
+    for b in word {
+        let digit = char::from(*b).to_digit(radix)?;
+        n = n
+            .checked_mul(u64::from(radix))?
+            .checked_add(u64::from(digit))?;
     }
-    Number::Is(n)
-}
-
-// A decimal number of 64 bits.
-pub(super) fn decimal_number(word: &[u8]) -> Number {
-    let mut n: u64 = 0;
-    let mut i = 0;
-    while i < word.len() {
-        let d = digit(word[i]) as u64;
-        if d > 9 {
-            return Number::IsNone;
-        }
-        if n > (LAST_NUMBER - d) / 10 {
-            return Number::IsNone;
-        }
-        n = n * 10 + d;
-        i += 1;
-    }
-    Number::Is(n)
+    Some(n)
 }

@@ -10,9 +10,11 @@ mod clears;
 mod leaves;
 mod lists;
 
-// What a line has said so far: how many numbers have ended, and the number at hand.
+// What a line has said so far: its numbers, how many of them have ended, and the number at hand.
+// Kept: an array with `ended` beside it: a number that a line does not say is that of the lines before.
 #[derive(Drop)]
-struct Place {
+struct Question {
+    fields: [u64; 16],
     ended: usize,
     number: u64,
 }
@@ -21,105 +23,74 @@ fn word(number: u64) -> u32 {
     (number % 0x1_0000_0000) as u32
 }
 
-fn answered(fields: &[u64; 16]) -> u64 {
-    let asked = fields[0];
-    match asked {
-        1 => leaves::piece(fields),
-        2 => leaves::piece(fields),
-        3 => leaves::piece(fields),
-        4 => leaves::encoded(fields),
-        5 => leaves::decoded(fields),
-        6 => leaves::classified(fields),
-        7 => leaves::received(fields),
-        8 => lists::built(fields),
-        9 => lists::built(fields),
-        10 => clears::stepped(fields),
-        _ => clears::ran(fields),
-    }
-}
-
-fn print_answer(out: &mut impl Write, fields: &[u64; 16]) -> io::Result<()> {
-    writeln!(out, "{:016x}", answered(fields))
-}
-
 // The value of a hex digit, and 0 of anything else.
-fn digit(b: u8) -> u64
+// Kept: `to_digit` gives uppercase letters values too. `drive` has the same function, since programs share no code but libraries'.
+fn digit(b: u8) -> u8
     ensures { result < 16 }
 {
-    if b >= b'0' {
-        if b <= b'9' {
-            return (b - b'0') as u64;
-        }
-    }
-    if b >= b'a' {
-        if b <= b'f' {
-            return (b - b'a') as u64 + 10;
-        }
-    }
-    0
-}
-
-// One byte of a question. A line with more than sixteen numbers loses those beyond.
-fn take_byte(fields: &mut [u64; 16], place: Place, b: u8) -> Place {
-    let ended = place.ended;
-    let number = place.number;
-    if b == b' ' || b == b'\n' {
-        if ended < 16 {
-            fields[ended] = number;
-            return Place {
-                ended: ended + 1,
-                number: 0,
-            };
-        }
-        return Place {
-            ended: 16,
-            number: 0,
-        };
-    }
-    Place {
-        ended: ended,
-        number: number % 0x1000_0000_0000_0000 * 16 + digit(b),
+    match b {
+        b'0'..=b'9' => b - b'0',
+        b'a'..=b'f' => b - b'a' + 10,
+        _ => 0,
     }
 }
 
-fn answer_all(
-    out: &mut impl Write,
-    fields: &mut [u64; 16],
-    at_first: Place,
-    text: &[u8],
-) -> io::Result<Place> {
-    let mut place = at_first;
-    let mut i = 0;
-    while i < text.len() {
-        let b = text[i];
-        i += 1;
-        place = take_byte(fields, place, b);
-        if b == b'\n' {
-            print_answer(out, fields)?;
-            place = Place {
-                ended: 0,
-                number: 0,
-            };
+impl Question {
+    // A line with more than sixteen numbers loses those beyond.
+    fn take(&mut self, b: u8) {
+        if b != b' ' && b != b'\n' {
+            self.number = self.number % 0x1000_0000_0000_0000 * 16 + u64::from(digit(b));
+            return;
+        }
+        if let Some(field) = self.fields.get_mut(self.ended) {
+            *field = self.number;
+            self.ended += 1;
+        }
+        self.number = 0;
+    }
+
+    // Kept: a match on the number of a question, since each has a function of its own and a table of functions says no more.
+    fn answer(&self) -> u64 {
+        let fields = &self.fields;
+        match fields[0] {
+            1..=3 => leaves::piece(fields),
+            4 => leaves::encoded(fields),
+            5 => leaves::decoded(fields),
+            6 => leaves::classified(fields),
+            7 => leaves::received(fields),
+            8 | 9 => lists::built(fields),
+            10 => clears::stepped(fields),
+            _ => clears::ran(fields),
         }
     }
-    Ok(place)
+}
+
+fn answer_all(out: &mut impl Write, question: &mut Question, text: &[u8]) -> io::Result<()> {
+    for b in text {
+        question.take(*b);
+        if *b == b'\n' {
+            writeln!(out, "{:016x}", question.answer())?;
+            question.ended = 0;
+        }
+    }
+    Ok(())
 }
 
 fn main(rt: HostRuntime) -> io::Result<()> {
     let mut input = rt.stdin();
     let mut out = rt.stdout();
-    let mut fields = [0u64; 16];
-    let mut place = Place {
+    let mut question = Question {
+        fields: [0; 16],
         ended: 0,
         number: 0,
     };
-    let mut text = [0u8; 65536];
+    let mut text = [0; 65536];
     for _ in 0..u64::MAX {
         let n = input.read(&mut text)?;
         if n == 0 {
             break;
         }
-        place = answer_all(&mut out, &mut fields, place, &text[..n])?;
+        answer_all(&mut out, &mut question, &text[..n])?;
     }
     Ok(())
 }

@@ -1,26 +1,26 @@
 -- Laws of the walk over a script's records: what stands in front decides what the records are, and a walk that has read so many bytes
 -- goes on after it.
 -- Assumes nothing.
+use Rattle.std.specs.Prelude.{Result, Ok, Err}
+use Rattle.refusal.specs.declared.Refusal.{Refusal}
 use Prim.Native.Nat.{ℕ, zero, suc, ◌+◌, ◌-◌, ◌≤◌, ◌<◌}
-use native.Mathlib.Nat.{le_of_suc-le-suc, not-suc-le-zero, add_assoc, add-zero, zero-add}
+use native.Mathlib.Nat.{le_of_suc-le-suc, not-suc-le-zero, add_assoc, add-zero}
 use native.Mathlib.Omega.{arith}
 use mathlib.Core.Path.{◌≡◌, refl, ap, sym, ◌∙◌}
-use mathlib.Core.Bool.{Bool, true, false, cond}
+use mathlib.Core.Bool.{cond}
 use mathlib.Core.List.{List, [], ◌∷◌}
 use mathlib.Core.Option.{Option, none, some, map}
-use lib.Dec.{ltb, leb, eqb}
-use lib.ListN.{length, take, drop, length-drop}
+use lib.Dec.{ltb}
+use lib.ListN.{length, take, drop, length-drop, drop_of_length-le}
 use lib.Seq.{drop-drop}
-use borrow.Author.Tests.{leb-true, leb-false}
+use Rattle.std.proofs.lemmas.Bool.Decides.{nat_tests}
 use Rattle.bus.specs.Operations.{Operation, write, read}
 use Rattle.refusal.specs.declared.Refusal.TheVariants.{Shape, Size}
 use Rattle.script.specs.declared.Record.{Record}
 use Rattle.script.specs.declared.Record.TheVariants.{Write, Read, Bad, End}
 use Rattle.script.specs.declared.Step.{Step}
-use Rattle.script.specs.declared.Verdict.{Verdict}
-use Rattle.script.specs.declared.Verdict.TheVariants.{Accepted, Refused}
 use Rattle.script.specs.Records.{big_endian, operations_from, records_of, record_of, record_size, record_at}
-use Rattle.script.specs.Scripts.{asks, refused, read_total, most, body_of, told_of}
+use Rattle.script.specs.Scripts.{read_total, most, body_of, told_of}
 
 -- bytes that are due are passed, if they are there
 pub due_there : (n : ℕ) (bytes : List ℕ) → n ≤ length bytes → operations_from n bytes ≡ records_of (drop n bytes)
@@ -46,26 +46,9 @@ module _ (high low kind : ℕ) (rest : List ℕ) where
   abbrev n : ℕ
   n = big_endian high low
 
-  written_out :
-      (fits : Bool)
-      → leb n (length rest) ≡ fits
-      → map (λ (os : List Operation). write (take n rest) ∷ os) (operations_from n rest)
-      ≡ in_front (cond fits (Write n) Bad) (high ∷ low ∷ kind ∷ rest)
-  written_out true e = rw (due_there n rest (leb-true n (length rest) e))
-  written_out false e = rw (due_missing n rest (leb-false n (length rest) e))
-
   headed : records_of (high ∷ low ∷ kind ∷ rest) ≡ in_front (record_of (high ∷ low ∷ kind ∷ rest)) (high ∷ low ∷ kind ∷ rest)
   unfolding operations_from record_of
-  headed = by_kind (eqb kind 0) (eqb kind 1) where
-    by_kind :
-        (writes reads : Bool)
-        → cond writes
-        (map (λ (os : List Operation). write (take n rest) ∷ os) (operations_from n rest))
-        (cond reads (map (λ (os : List Operation). read n ∷ os) (records_of rest)) none)
-        ≡ in_front (cond writes (cond (leb n (length rest)) (Write n) Bad) (cond reads (Read n) Bad)) (high ∷ low ∷ kind ∷ rest)
-    by_kind true reads = written_out (leb n (length rest)) refl
-    by_kind false true = refl
-    by_kind false false = refl
+  headed = grind (arith, nat_tests, due_there n rest, due_missing n rest)
 
 records_by : (l : List ℕ) → records_of l ≡ in_front (record_of l) l
 unfolding operations_from record_of
@@ -75,37 +58,22 @@ records_by (high ∷ low ∷ []) = refl
 records_by (high ∷ low ∷ kind ∷ rest) = headed high low kind rest
 
 -- what stands in front is there
-size_there : (l : List ℕ) → record_size (record_of l) ≤ length l
+pub size_there : (l : List ℕ) → record_size (record_of l) ≤ length l
 unfolding record_of
 size_there [] = omega arith
 size_there (high ∷ []) = omega arith
 size_there (high ∷ low ∷ []) = omega arith
-size_there (high ∷ low ∷ kind ∷ rest) =
-    by_kind (eqb kind 0) (eqb kind 1) (leb (big_endian high low) (length rest)) refl where
-      by_kind :
-          (writes reads fits : Bool)
-          → leb (big_endian high low) (length rest) ≡ fits
-          → record_size (cond writes (cond fits (Write (big_endian high low)) Bad) (cond reads (Read (big_endian high low)) Bad))
-          ≤ length (high ∷ low ∷ kind ∷ rest)
-      by_kind true reads true e = omega (arith, leb-true (big_endian high low) (length rest) e)
-      by_kind true reads false e = omega arith
-      by_kind false true fits e = omega arith
-      by_kind false false fits e = omega arith
+size_there (high ∷ low ∷ kind ∷ rest) = grind (arith, nat_tests)
 
 -- the answer of a walk that has read t bytes and finds these records ahead
-abbrev pub ahead : ℕ → Option (List Operation) → Verdict
-ahead t none = Refused Shape
-ahead t (some os) = cond (ltb most (t + read_total os)) (Refused Size) (Accepted (t + read_total os))
+abbrev pub ahead : ℕ → Option (List Operation) → Result ℕ Refusal
+ahead t none = Err Shape
+ahead t (some os) = cond (ltb most (t + read_total os)) (Err Size) (Ok (t + read_total os))
 
 pub ahead_all : (body : Option (List Operation)) → ahead 0 body ≡ told_of (body_of body)
 unfolding body_of
 ahead_all none = refl
-ahead_all (some os) = rw zero-add (by_size (ltb most (read_total os))) where
-  by_size :
-      (large : Bool)
-      → cond large (Refused Size) (Accepted (read_total os)) ≡ told_of (cond large (refused Size) (asks os))
-  by_size true = refl
-  by_size false = refl
+ahead_all (some os) = grind (arith, nat_tests)
 
 ahead_write :
     (t : ℕ) (bytes : List ℕ) (body : Option (List Operation))
@@ -181,40 +149,39 @@ module _ (s : List ℕ) (at : ℕ) (step : Step) (e : step ≡ record_at s at) w
         ∙ ap (λ (l : List ℕ). map (λ (os : List Operation). read n ∷ os) (records_of l))
         (drop-drop 3 at s ∙ passed (Read n) f)
 
--- what a step of the walk says of the answer, when t bytes have been read
-pub record Walked (s : List ℕ) (at t : ℕ) (step : Step) : Type 0 where
-  pub inside : at ≤ length s → step.next ≤ length s
-  pub ends : step.found ≡ End → ahead t (records_of (drop at s)) ≡ cond (ltb most t) (Refused Size) (Accepted t)
-  pub is_bad : step.found ≡ Bad → ahead t (records_of (drop at s)) ≡ Refused Shape
-  pub passes_write :
-      (n : ℕ)
-      → step.found ≡ Write n
-      → (step.next ≡ at + 3 + n) × (ahead t (records_of (drop at s)) ≡ ahead t (records_of (drop step.next s)))
-  pub passes_read :
-      (n : ℕ)
-      → step.found ≡ Read n
-      → (step.next ≡ at + 3) × (ahead t (records_of (drop at s)) ≡ ahead (t + n) (records_of (drop step.next s)))
+-- what a step says of the answer of a walk that has read t bytes
+abbrev pub stepped : ℕ → List ℕ → ℕ → Record → Result ℕ Refusal
+stepped t s next End = cond (ltb most t) (Err Size) (Ok t)
+stepped t s next Bad = Err Shape
+stepped t s next (Write n) = ahead t (records_of (drop next s))
+stepped t s next (Read n) = ahead (t + n) (records_of (drop next s))
 
-module _ (s : List ℕ) (at t : ℕ) (step : Step) (e : step ≡ record_at s at) where
-  walk_end : step.found ≡ End → ahead t (records_of (drop at s)) ≡ cond (ltb most t) (Refused Size) (Accepted t)
+module _ (s : List ℕ) (at : ℕ) where
+  abbrev here : Step
+  here = record_at s at
+
+  -- past the script's last byte stands its end
+  pub step_end : length s ≤ at → record_at s at ≡ record { found = End; next = at }
+  unfolding record_at record_of
+  step_end h = rw (drop_of_length-le s {i = at} h, add-zero)
+
+  pub next_place : (record_at s at).next ≡ at + record_size (record_at s at).found
+  unfolding record_at
+  next_place = refl
+
+  pub next_inside : at ≤ length s → (record_at s at).next ≤ length s
+  next_inside = walk_inside s at here refl
+
+  stepped_by : (t : ℕ) (r : Record) → here.found ≡ r → ahead t (records_of (drop at s)) ≡ stepped t s here.next r
   unfolding read_total
-  walk_end f = rw (records_end s at step e f, add-zero)
+  stepped_by t End f = rw (records_end s at here refl f, add-zero)
+  stepped_by t Bad f = rw (records_bad s at here refl f)
+  stepped_by t (Write n) f =
+      ap (ahead t) (records_write s at here refl n f) ∙ ahead_write t (take n (drop (here.next - n) s)) (records_of (drop here.next s))
+  stepped_by t (Read n) f = ap (ahead t) (records_read s at here refl n f) ∙ ahead_read t n (records_of (drop here.next s))
 
-  abbrev left : Option (List Operation)
-  left = records_of (drop step.next s)
+  pub ahead_stepped : (t : ℕ) → ahead t (records_of (drop at s)) ≡ stepped t s (record_at s at).next (record_at s at).found
+  ahead_stepped t = stepped_by t here.found refl
 
-  pub walked : Walked s at t step
-  walked =
-      record {
-        inside = walk_inside s at step e;
-        ends = walk_end;
-        is_bad = λ f. rw (records_bad s at step e f);
-        passes_write = λ n f. (
-          write_next s at step e n f,
-          ap (ahead t) (records_write s at step e n f) ∙ ahead_write t (take n (drop (step.next - n) s)) left,
-        );
-        passes_read = λ n f. (
-          read_next s at step e n f,
-          ap (ahead t) (records_read s at step e n f) ∙ ahead_read t n left,
-        );
-      }
+-- by these the walk is followed step by step
+pub ruleset steps = (next_place, next_inside, ahead_stepped, ahead_all)

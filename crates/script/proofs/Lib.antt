@@ -1,4 +1,3 @@
-pub mod Laws
 pub mod LawsWalk
 pub mod Refusals
 pub mod Written

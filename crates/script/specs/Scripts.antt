@@ -1,12 +1,10 @@
 -- Which scripts are accepted, after 01, "Numbers of refusals": "Script order: 1; fewer than 3 bytes (5); 4; field above 4,096 (6);
 -- field unequal to the bytes that follow (5); any bad record (5); read total (6)".
-use Rattle.std.specs.Prelude.{ℕ, ◌+◌, ◌-◌, cond, not, List, [], ◌∷◌, length, drop, get_or, ltb, eqb}
+use Rattle.std.specs.Prelude.{ℕ, ◌+◌, ◌-◌, cond, not, List, [], ◌∷◌, length, drop, get_or, ltb, eqb, Result, Ok, Err}
 use Rattle.std.proofs.Math.Option.{Option, none, some}
 use Rattle.bus.specs.Operations.{Operation, write, read}
 use Rattle.refusal.specs.declared.Refusal.{Refusal}
 use Rattle.refusal.specs.declared.Refusal.TheVariants.{AddressInvalid, Version, Shape, Size}
-use Rattle.script.specs.declared.Verdict.{Verdict}
-use Rattle.script.specs.declared.Verdict.TheVariants.{Accepted, Refused}
 use Rattle.script.specs.Records.{big_endian, records_of}
 
 -- a script is the operations that it asks for, or it is refused
@@ -40,6 +38,6 @@ script_of address script =
     (body_of (records_of (drop 3 script)))))))
 
 -- what a caller is told
-abbrev pub told_of : Script → Verdict
-told_of (asks os) = Accepted (read_total os)
-told_of (refused r) = Refused r
+abbrev pub told_of : Script → Result ℕ Refusal
+told_of (asks os) = Ok (read_total os)
+told_of (refused r) = Err r

@@ -1,13 +1,14 @@
 // A script says in bytes which operations a transaction consists of.
 #![tactic(auto)]
 
-ghost use Rattle.std.specs.Prelude.{◌≡◌, ℕ, ◌+◌, ◌*◌, ◌≤◌, length, drop};
-ghost use Rattle.script.specs.Records.{record_at, records_of};
+ghost use Rattle.std.specs.Prelude.{◌≡◌, ◌≤◌, length};
+ghost use Rattle.script.specs.Records.{record_of, record_size, record_at, records_of};
 ghost use Rattle.script.specs.Scripts.{told_of, body_of, script_of};
 
 use refusal::Refusal;
 
 // What stands at a place of a script.
+// Kept: definition record_of has these four in one; as a Result of an Option each match on them would be of three layers.
 #[derive(Drop)]
 pub enum Record {
     Write(u16),
@@ -23,21 +24,12 @@ pub struct Step {
     pub next: usize,
 }
 
-// An accepted script comes with the number of bytes that it reads.
-#[derive(Drop)]
-pub enum Verdict {
-    Accepted(usize),
-    Refused(Refusal),
-}
-
 const VERSION: u8 = 1;
-
-// The version, and the length of the body in two bytes.
-const HEADER: usize = 3;
 
 // The length of a record in two bytes, and its kind.
 const RECORD_HEADER: usize = 3;
 
+// Kept: a record's kind is a byte of the script.
 const WRITE: u8 = 0;
 
 const READ: u8 = 1;
@@ -48,102 +40,99 @@ const MOST: usize = 4096;
 // Addresses are of seven bits.
 const LAST_ADDRESS: u32 = 127;
 
-fn big_endian(high: u8, low: u8) -> u16
-    ensures { result ≡ high * 256 + low }
+// The record that stands in front.
+#[tactic(auto, unfolding(crate::specs::Records::record_of))]
+fn first_record(bytes: &[u8]) -> Record
+    ensures { result ≡ record_of bytes.now }
 {
-    (high as u16) * 256 + (low as u16)
-}
-
-// The cursor over records: from one place to the next.
-pub fn next_record(script: &[u8], at: usize) -> Step
-    ensures { result ≡ record_at script.now at }
-{
-    if at >= script.len() {
-        return Step {
-            found: Record::End,
-            next: at,
-        };
-    }
-    if script.len() - at < RECORD_HEADER {
-        return Step {
-            found: Record::Bad,
-            next: at,
-        };
-    }
-    let length = big_endian(script[at], script[at + 1]);
-    let kind = script[at + 2];
-    if kind == READ {
-        return Step {
-            found: Record::Read(length),
-            next: at + RECORD_HEADER,
-        };
-    }
-    if kind != WRITE {
-        return Step {
-            found: Record::Bad,
-            next: at,
-        };
-    }
-    if script.len() - at - RECORD_HEADER < length as usize {
-        return Step {
-            found: Record::Bad,
-            next: at,
-        };
-    }
-    Step {
-        found: Record::Write(length),
-        next: at + RECORD_HEADER + length as usize,
+    match bytes {
+        [] => Record::End,
+        [high, low, READ, ..] => Record::Read(u16::from_be_bytes([*high, *low])),
+        [high, low, WRITE, rest @ ..] => {
+            let length = u16::from_be_bytes([*high, *low]);
+            if rest.len() < length as usize {
+                return Record::Bad;
+            }
+            Record::Write(length)
+        }
+        _ => Record::Bad,
     }
 }
 
-// The body's records, up to the first bad one.
-fn read_body(script: &[u8]) -> Verdict
-    requires { (3 ≤ length script.now) × (length script.now ≤ 4099) }
-    ensures { result ≡ told_of (body_of (records_of (drop 3 script.now))) }
-{
-    let mut at: usize = HEADER;
-    let mut total: usize = 0;
-    loop {
-        let step = next_record(script, at);
-        let found = step.found;
-        at = step.next;
-        match found {
-            Record::End => {
-                if total > MOST {
-                    return Verdict::Refused(Refusal::Size);
-                }
-                return Verdict::Accepted(total);
-            }
-            Record::Bad => {
-                return Verdict::Refused(Refusal::Shape);
-            }
-            Record::Write(_) => {}
-            Record::Read(length) => {
-                total += length as usize;
-            }
+impl Record {
+    // How many bytes it takes; a bad record and the end are not passed.
+    fn size(&self) -> usize
+        ensures { result ≡ record_size self.now }
+    {
+        match self {
+            Record::Write(length) => RECORD_HEADER + *length as usize,
+            Record::Read(_) => RECORD_HEADER,
+            Record::Bad | Record::End => 0,
         }
     }
 }
 
-// The refusals in document 01's order, up to the read total.
-pub fn read_script(address: u32, script: &[u8]) -> Verdict
+// The cursor over records: from one place to the next.
+// Kept: no iterator, since definition `record_at` is about any place of any bytes, and callers ask for the place too.
+#[tactic(auto, unfolding(crate::specs::Records::record_at), using(crate::proofs::LawsWalk::step_end, crate::proofs::LawsWalk::size_there))]
+pub fn next_record(script: &[u8], at: usize) -> Step
+    ensures { result ≡ record_at script.now at }
+{
+    let Some(rest) = script.get(at..) else {
+        return Step {
+            found: Record::End,
+            next: at,
+        };
+    };
+    let found = first_record(rest);
+    Step {
+        next: at + found.size(),
+        found,
+    }
+}
+
+// The body's records, up to the first bad one.
+// Kept: a loop over the cursor, which counts no index: the end is one of its four answers.
+#[tactic(auto, using(crate::proofs::LawsWalk::steps))]
+fn read_body(body: &[u8]) -> Result<usize, Refusal>
+    requires { length body.now ≤ 4096 }
+    ensures { result ≡ told_of (body_of (records_of body.now)) }
+{
+    let mut at = 0;
+    let mut total = 0;
+    loop {
+        let step = next_record(body, at);
+        at = step.next;
+        match step.found {
+            Record::End if total > MOST => return Err(Refusal::Size),
+            Record::End => return Ok(total),
+            Record::Bad => return Err(Refusal::Shape),
+            Record::Write(_) => {}
+            Record::Read(length) => total += length as usize,
+        }
+    }
+}
+
+// How many bytes a script reads, or its refusal: document 01's order, up to the read total.
+#[tactic(auto, unfolding(crate::specs::Scripts::script_of))]
+pub fn read_script(address: u32, script: &[u8]) -> Result<usize, Refusal>
     ensures { result ≡ told_of (script_of address script.now) }
 {
     if address > LAST_ADDRESS {
-        return Verdict::Refused(Refusal::AddressInvalid);
+        return Err(Refusal::AddressInvalid);
     }
-    if script.len() < HEADER {
-        return Verdict::Refused(Refusal::Shape);
+    let [version, high, low, body @ ..] = script else {
+        return Err(Refusal::Shape);
+    };
+    if *version != VERSION {
+        return Err(Refusal::Version);
     }
-    if script[0] != VERSION {
-        return Verdict::Refused(Refusal::Version);
-    }
-    let field = big_endian(script[1], script[2]) as usize;
+    let field = u16::from_be_bytes([*high, *low]) as usize;
     if field > MOST {
-        return Verdict::Refused(Refusal::Size);
+        return Err(Refusal::Size);
     }
-    if field != script.len() - HEADER {
-        return Verdict::Refused(Refusal::Shape);
+    if field != body.len() {
+        return Err(Refusal::Shape);
     }
-    read_body(script)
+    read_body(body)
 }

@@ -7,9 +7,22 @@ use mathlib.Core.List.{List}
 use lib.ListN.{length}
 use lib.Dec.{eqb}
 use borrow.Author.Tests.{lt-ltb, le-ltb}
+use Rattle.transaction.specs.declared.Beginning.{Beginning}
+use Rattle.transaction.specs.declared.Beginning.TheVariants.{Ready, ClearFirst}
 use Rattle.transaction.specs.declared.Begun.{Begun}
-use Rattle.transaction.specs.Numbers.{begin_number}
-use Rattle.sitankulo.specs.Transactions.{goes_ahead, renewed, roomless, begin_answer}
+use Rattle.transaction.specs.declared.Abandonment.{Abandonment}
+use Rattle.transaction.specs.declared.Abandonment.TheVariants.{Quiet, ResetAndClear}
+use Rattle.transaction.specs.Numbers.{beginning_number, begin_number, abandonment_number}
+use Rattle.sitankulo.specs.Transactions.{goes_ahead, roomless, begin_answer, BeginLeft}
+
+-- each beginning goes ahead, and each giving up
+pub starts : (b : Beginning) → goes_ahead (beginning_number b) ≡ true
+starts Ready = refl
+starts ClearFirst = refl
+
+pub gives_up : (a : Abandonment) → goes_ahead (abandonment_number a) ≡ true
+gives_up Quiet = refl
+gives_up ResetAndClear = refl
 
 -- a record without room is never written
 pub roomless_stays : (m : ℕ) → goes_ahead (roomless m) ≡ false
@@ -21,7 +34,7 @@ roomless_stays m = go (goes_ahead m) refl (eqb m 13) where
 
 module _ (kind : ℕ) (state : List ℕ) (b made : Begun) (e : made ≡ b) (n : ℕ) (told : n ≡ begin_number made.answer) where
   abbrev Begins : ℕ → List ℕ → Type 0
-  Begins r after = (r ≡ begin_answer kind (length state) b) × (after ≡ cond (goes_ahead r) (renewed state b.progress) state)
+  Begins r after = BeginLeft kind b r state after
 
   number : n ≡ begin_number b.answer
   number = told ∙ ap (λ (x : Begun). begin_number x.answer) e
@@ -36,12 +49,3 @@ module _ (kind : ℕ) (state : List ℕ) (b made : Begun) (e : made ≡ b) (n : 
       pub begin_stays : goes_ahead n ≡ false → Begins n state
       unfolding begin_answer
       begin_stays q = rw (q, le-ltb 2 kind known, le-ltb (length state) 25 long) (number, refl)
-
-      pub begin_ahead : (after : List ℕ) → goes_ahead n ≡ true → after ≡ renewed state made.progress → Begins n after
-      unfolding begin_answer
-      begin_ahead after q w =
-          rw (q, le-ltb 2 kind known, le-ltb (length state) 25 long) (number, w ∙ ap (λ (x : Begun). renewed state x.progress) e)
-
-pub begin_unknown : (kind room : ℕ) (b : Begun) → 2 < kind → 5 ≡ begin_answer kind room b
-unfolding begin_answer
-begin_unknown kind room b h = rw (lt-ltb 2 kind h)

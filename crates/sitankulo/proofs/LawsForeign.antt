@@ -1,23 +1,17 @@
--- Laws of a record that no call left: the script's refusals, then 5; and no number of a refusal is a success, or told of a list.
+-- Laws of a record that no call left: the script's refusals, then 5; and no number of a refusal is a success, goes ahead or is told of a list.
 -- Assumes nothing.
 use Prim.Native.Nat.{ℕ}
 use mathlib.Core.Path.{◌≡◌, refl}
 use mathlib.Core.Bool.{false}
-use mathlib.Core.List.{List}
 use Rattle.refusal.specs.declared.Refusal.{Refusal}
 use Rattle.refusal.specs.declared.Refusal.TheVariants.{AddressInvalid, ZeroLengthInvalid, FifoExceeded, Version, Shape, Size, Room, OutOfTurn, ClockRange, ListRefused}
 use Rattle.refusal.specs.Numbers.{number_of}
-use Rattle.script.specs.declared.Verdict.TheVariants as verdict
-use Rattle.script.specs.Scripts.{Script, asks, refused, script_of, told_of}
-use Rattle.script.proofs.LawsAccepted.{refused_by, accepted_asks}
-use Rattle.sitankulo.specs.Transactions.{number_in, succeeds, foreign_number, tells}
+use Rattle.script.specs.Scripts.{Script, asks, refused}
+use Rattle.sitankulo.specs.Transactions.{number_in, succeeds, goes_ahead, foreign_refusal, foreign_number, tells}
 
-module _ (address : ℕ) (script : List ℕ) where
-  pub foreign_refused : (r : Refusal) → verdict.Refused r ≡ told_of (script_of address script) → number_of r ≡ foreign_number (script_of address script)
-  foreign_refused r e = rw (refused_by (script_of address script) r e)
-
-  pub foreign_accepted : (total : ℕ) → verdict.Accepted total ≡ told_of (script_of address script) → 5 ≡ foreign_number (script_of address script)
-  foreign_accepted total e = rw (accepted_asks (script_of address script) total e)
+pub foreign_told : (s : Script) → number_of (foreign_refusal s) ≡ foreign_number s
+foreign_told (refused r) = refl
+foreign_told (asks os) = refl
 
 -- numbers of refusals
 pub by_number :
@@ -42,10 +36,5 @@ unsuccessful = by_number (λ n. succeeds n ≡ false) refl refl refl refl refl r
 pub silent : (r : Refusal) → tells (number_in (number_of r)) ≡ false
 silent = by_number (λ n. tells (number_in n) ≡ false) refl refl refl refl refl refl refl refl refl refl
 
-pub foreign_unsuccessful : (s : Script) → succeeds (foreign_number s) ≡ false
-foreign_unsuccessful (refused r) = unsuccessful r
-foreign_unsuccessful (asks os) = refl
-
-pub foreign_silent : (s : Script) → tells (number_in (foreign_number s)) ≡ false
-foreign_silent (refused r) = silent r
-foreign_silent (asks os) = refl
+pub halts : (r : Refusal) → goes_ahead (number_of r) ≡ false
+halts = by_number (λ n. goes_ahead n ≡ false) refl refl refl refl refl refl refl refl refl refl

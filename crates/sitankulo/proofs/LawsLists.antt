@@ -1,57 +1,20 @@
--- Laws of a list in lent memory, for citing: what is left where it is refused, where room is lacking, and where it is handed out.
+-- Laws of a list that is asked for, for citing: it has few FIFO bytes; and its flags.
 -- Assumes nothing.
-use Prim.Native.Nat.{ℕ, ◌≤◌, ◌<◌}
+use Prim.Native.Nat.{ℕ, ◌%◌, ◌≤◌}
+use native.Mathlib.Nat.{div-one}
 use native.Mathlib.Omega.{arith}
-use mathlib.Core.Path.{◌≡◌, sym, ◌∙◌}
-use mathlib.Core.Bool.{Bool, true, false, cond, ◌&&◌}
+use mathlib.Core.Path.{◌≡◌, ap}
+use mathlib.Core.Bool.{Bool, true, false}
 use mathlib.Core.List.{List}
 use lib.ListN.{length}
-use lib.Seq.{paste}
-use lib.Dec.{leb, ltb, eqb}
-use borrow.Author.Tests.{eq-eqb, ne_eqb, le-leb, lt-leb, ltb-false}
-use Rattle.wire.specs.Numbers.{word_bytes}
+use lib.Dec.{ltb, eqb}
+use borrow.Author.Tests.{ltb-false}
 use Rattle.list.specs.declared.Built.{Built}
-use Rattle.list.specs.Lists.{answer_number, invalid, write_limit, read_limit, write_fifo, read_fifo, listed, unlisted, write_of, read_of}
+use Rattle.list.specs.Lists.{invalid, write_limit, read_limit, write_fifo, read_fifo, listed, unlisted, write_of, read_of}
 use Rattle.list.proofs.Laws.{write_opened_fifo, write_more_fifo, read_opened_fifo, read_more_fifo, write_limit_opened}
-use Rattle.sitankulo.specs.Answers.{packed}
-use Rattle.sitankulo.specs.Lists.{ListLeft}
+use Rattle.outcome.specs.Packed.{bit_of}
+use Rattle.sitankulo.specs.Lists.{starting}
 use Rattle.sitankulo.proofs.LawsTests.{by_test}
-
-module _ (b : Built) (words fifo : List ℕ) (number : ℕ) (e : number ≡ answer_number b.answer) where
-  pub list_refused_lem : (number ≡ 0 → ⊥) → ListLeft b number words words fifo fifo
-  list_refused_lem h =
-      let z : eqb (answer_number b.answer) 0 ≡ false = ne_eqb _ 0 (λ q. h (e ∙ q)) in
-      (e ∙ simp z, simp z, simp z)
-
-  module _ (listed : number ≡ 0) where
-    some : eqb (answer_number b.answer) 0 ≡ true
-    some = eq-eqb _ 0 (sym e ∙ listed)
-
-    pub no_words : length words < 32 → ListLeft b 7 words words fifo fifo
-    no_words h = (simp (some, lt-leb 32 (length words) h), simp (some, lt-leb 32 (length words) h), simp (some, lt-leb 32 (length words) h))
-
-    module _ (room : 32 ≤ length words) where
-      pub no_fifo : length fifo < b.list.count → ListLeft b 7 words words fifo fifo
-      no_fifo h =
-          let w = le-leb 32 (length words) room in
-          let f = lt-leb b.list.count (length fifo) h in
-          (simp (some, w, f), simp (some, w, f), simp (some, w, f))
-
-      pub handed_out :
-          b.list.count ≤ length fifo
-          → b.list.count ≤ length b.list.fifo
-          → (r : ℕ) (words' fifo' : List ℕ)
-          → r ≡ packed 0 b.list.count
-          → words' ≡ cond (leb 32 (length words)) (paste words 0 (word_bytes b.list.words) 32) words
-          → fifo'
-          ≡ cond (leb b.list.count (length b.list.fifo) && leb b.list.count (length fifo))
-          (paste fifo 0 b.list.fifo b.list.count) fifo
-          → ListLeft b r words words' fifo fifo'
-      handed_out h k r words' fifo' p q s =
-          let w = le-leb 32 (length words) room in
-          let f = le-leb b.list.count (length fifo) h in
-          let g = le-leb b.list.count (length b.list.fifo) k in
-          (p ∙ simp (some, w, f), q ∙ simp (some, w, f), s ∙ simp (some, w, f, g))
 
 -- no list has more than 32 FIFO bytes
 write_fits :
@@ -85,3 +48,7 @@ read_few address n start stop continues =
     by_test Few (invalid address) _ _ (λ h. omega arith)
     (λ h. by_test Few (eqb n 0) _ _ (λ k. omega arith)
     (λ k. by_test Few (ltb (read_limit 32 continues) n) _ _ (λ l. omega arith) (λ l. read_fits address start)))
+
+-- the first of the flags
+pub first_bit : (flags : ℕ) → bit_of 1 flags ≡ starting flags
+first_bit flags = ap (λ (n : ℕ). eqb (n % 2) 1) (div-one flags)

@@ -1,5 +1,6 @@
 -- Laws of runs on the model, for citing: a list causes few events and receives few bytes.
 -- Assumes nothing.
+use Rattle.std.specs.Prelude.{Option, Some, None}
 use Prim.Native.Nat.{ℕ, zero, suc, ◌+◌, ◌-◌, ◌≤◌}
 use native.Mathlib.Omega.{arith}
 use mathlib.Core.Path.{◌≡◌, ◌∙◌}
@@ -8,12 +9,10 @@ use mathlib.Core.List.{List, [], ◌∷◌}
 use lib.ListN.{length, take, drop, get_or, length-drop}
 use lib.Seq.{length-take-le}
 use lib.Dec.{leb, eqb}
-use borrow.Author.Tests.{leb-true, eq-eqb, ne_eqb}
+use borrow.Author.Tests.{leb-true, eq-eqb}
 use Rattle.bus.specs.Events.{Acknowledge, ack, nack}
 use Rattle.command.specs.declared.Command.{Command}
 use Rattle.command.specs.declared.Command.TheVariants.{Start, Write, Read, ReadNack, Stop, End}
-use Rattle.command.specs.declared.Meaning.{Meaning}
-use Rattle.command.specs.declared.Meaning.TheVariants.{Planned, Malformed}
 use Rattle.command.specs.Word.{meaning_of}
 use Rattle.controller.specs.declared.Phase.{Phase}
 use Rattle.controller.specs.declared.Phase.TheVariants.{Idle, Started, Writing, Reading, ReadDone}
@@ -98,11 +97,11 @@ module _ (words : ℕ) (s : State) (k : Sensor) (on : State → Sensor → Run) 
       (λ e. (omega arith, omega arith)) (λ e. (omega arith, omega arith))
 
   word_few :
-      (m : Meaning)
+      (m : Option Command)
       → Few (left (suc words) s) (32 - s.received) (meant m (λ c. follow (effect_of 32 c s) (obey c s k) on done))
   unfolding events_of received_bytes
-  word_few Malformed = (omega arith, omega arith)
-  word_few (Planned c) = command_few c
+  word_few None = (omega arith, omega arith)
+  word_few (Some c) = command_few c
 
 run_few :
     (words : List ℕ) (s : State) (k : Sensor)
@@ -147,9 +146,6 @@ few_report r h a b =
 module _ (words fifo : List ℕ) (phase : ℕ) (sends : List ℕ) (refuses : ℕ) (received events : List ℕ) where
   abbrev asked : Run
   asked = run_asked words fifo phase sends refuses
-
-  pub not_whole : (length words ≡ 32 → ⊥) → ModelLeft words asked 14 received received events events
-  not_whole h = let f = ne_eqb (length words) 32 h in (simp f, simp f, simp f)
 
   module _ (w : List ℕ) (e : w ≡ words_of words) (report : Report) (received' events' : List ℕ)
       (told : Reported (run_of w fifo phase sends refuses) report received received' events events') where

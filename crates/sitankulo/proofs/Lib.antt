@@ -1,7 +1,5 @@
 pub mod LawsTests
 pub mod LawsLists
-pub mod LawsSnapshots
-pub mod LawsNames
 pub mod LawsModel
 pub mod LawsClears
 pub mod LawsClearRuns
@@ -12,11 +10,9 @@ pub mod TransactionRefusals
 pub mod LawsRecords
 pub mod LawsHanded
 pub mod LawsForeign
-pub mod LawsAsked
 pub mod LawsBegin
 pub mod LawsNext
 pub mod LawsComplete
-pub mod LawsAbandon
 pub mod RecordReturns
 pub mod RecordOnly
 pub mod RecordStands

@@ -1,5 +1,6 @@
 -- What a call answers or lays is read back: by the macros of include/sitankulo.h, and by the next call.
 -- Assumes nothing.
+use Rattle.std.specs.Prelude.{Option, Some, None}
 use Prim.Native.Nat.{ℕ, suc, ◌+◌, ◌*◌, ◌/◌, ◌%◌, ◌≤◌, ◌<◌}
 use native.Mathlib.Omega.{arith}
 use mathlib.Core.Path.{◌≡◌, refl, sym, ap, ◌∙◌}
@@ -14,8 +15,6 @@ use Rattle.wire.proofs.Numbers.{time_returns}
 use Rattle.bus_clear.specs.declared.State.{State}
 use Rattle.bus_clear.specs.declared.State.TheVariants.{Idle, SendStop, SendClock}
 use Rattle.bus_clear.specs.declared.BusClear.{BusClear}
-use Rattle.sitankulo.specs.declared.clear_layout.Decoded.{Decoded}
-use Rattle.sitankulo.specs.declared.clear_layout.Decoded.TheVariants.{Held, Foreign}
 use Rattle.sitankulo.specs.Answers.{packed}
 use Rattle.sitankulo.specs.ClearLayout.{state_byte, clocks_byte, clear_bytes, holding, without_clocks, decoded_from, decoded_of}
 use Rattle.sitankulo.proofs.LawsTests.{by_test}
@@ -39,7 +38,7 @@ from_bytes (SendClock n true) wait = refl
 pub clear_read_back :
     (c : BusClear) (old : List ℕ)
     → c.wait < 0x10000000000000000
-    → decoded_of (paste old 0 (clear_bytes c) 10) ≡ Held c
+    → decoded_of (paste old 0 (clear_bytes c) 10) ≡ Some c
 unfolding decoded_of
 clear_read_back c old h =
     let a = state_byte c.state in
@@ -49,20 +48,20 @@ clear_read_back c old h =
 
 -- and a clear that is read is one that a call leaves: what no call writes is refused
 module _ (a b wait : ℕ) (c : BusClear) where
-  abbrev Says : Decoded → Type 0
-  Says d = d ≡ Held c → (state_byte c.state ≡ a) × (clocks_byte c.state ≡ b) × (c.wait ≡ wait)
+  abbrev Says : Option BusClear → Type 0
+  Says d = d ≡ Some c → (state_byte c.state ≡ a) × (clocks_byte c.state ≡ b) × (c.wait ≡ wait)
 
   held_says : (state : State) → state_byte state ≡ a → clocks_byte state ≡ b → Says (holding state wait)
   held_says state p q e =
       let same : c ≡ record { state = state; wait = wait } = cc in
       (ap (λ (x : BusClear). state_byte x.state) same ∙ p, ap (λ (x : BusClear). clocks_byte x.state) same ∙ q, ap (λ (x : BusClear). x.wait) same)
 
-  foreign_says : Says Foreign
+  foreign_says : Says None
   foreign_says e = let z : ◌≡◌ {A = ℕ} 0 1 = cc in absurd (omega arith)
 
   still_says : (state : State) → state_byte state ≡ a → clocks_byte state ≡ 0 → Says (without_clocks b state wait)
   still_says state p q =
-      by_test Says (eqb b 0) (holding state wait) Foreign (λ t. held_says state p (q ∙ sym (eqb-true b 0 t))) (λ t. foreign_says)
+      by_test Says (eqb b 0) (holding state wait) None (λ t. held_says state p (q ∙ sym (eqb-true b 0 t))) (λ t. foreign_says)
 
   bytes_say : Says (decoded_from a b wait)
   unfolding decoded_from
@@ -116,7 +115,7 @@ one_more l r j h e = drop-cons l j 0 h ∙ ap (λ (more : List ℕ). get_or l j 
 pub held_was_left :
     (bytes : List ℕ) (c : BusClear)
     → ((i : ℕ) → get_or bytes i 0 < 256)
-    → decoded_of bytes ≡ Held c
+    → decoded_of bytes ≡ Some c
     → bytes ≡ paste bytes 0 (clear_bytes c) 10
 unfolding decoded_of
 held_was_left l c small e =

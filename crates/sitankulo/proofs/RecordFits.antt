@@ -1,5 +1,7 @@
 -- Every number of a record that a call leaves fits its eight bytes, so that it is read back as it was.
 -- Assumes nothing.
+use Rattle.std.specs.Prelude.{Option, None, Result, Ok, Err}
+use Rattle.refusal.specs.declared.Refusal.{Refusal}
 use Prim.Native.Nat.{ℕ, ◌<◌}
 use native.Mathlib.Omega.{arith}
 use mathlib.Core.Path.{◌≡◌, refl}
@@ -8,7 +10,6 @@ use mathlib.Core.List.{List}
 use lib.ListN.{length}
 use lib.Dec.{ltb}
 use borrow.Author.Tests.{ltb-false}
-use Rattle.outcome.specs.declared.Due.{Due}
 use Rattle.outcome.specs.declared.Outcome.{Outcome}
 use Rattle.outcome.specs.declared.Outcome.TheVariants.{Pending, Done, Failed}
 use Rattle.outcome.specs.declared.Snapshot.{Snapshot}
@@ -21,8 +22,6 @@ use Rattle.transaction.specs.declared.Deadline.{Deadline}
 use Rattle.transaction.specs.declared.Deadline.TheVariants.{None, Fixed, PerByte}
 use Rattle.transaction.specs.declared.Settings.{Settings}
 use Rattle.transaction.specs.declared.Progress.{Progress}
-use Rattle.transaction.specs.declared.Timing.{Timing}
-use Rattle.transaction.specs.declared.Timing.TheVariants.{Told, OutOfRange}
 use Rattle.transaction.specs.declared.Handed.{Handed}
 use Rattle.transaction.specs.declared.Completed.{Completed}
 use Rattle.transaction.specs.declared.Abandoned.{Abandoned}
@@ -35,9 +34,9 @@ use Rattle.sitankulo.proofs.LawsTests.{by_test}
 use Rattle.sitankulo.proofs.RecordReturns.{Fits}
 
 -- a time that is told has at most 64 bits
-abbrev Timely : Timing → Type 0
-Timely (Told due) = time_in due < 0x10000000000000000
-Timely OutOfRange = Unit {0}
+abbrev Timely : Result (Option ℕ) Refusal → Type 0
+Timely (Ok due) = time_in due < 0x10000000000000000
+Timely (Err refusal) = Unit {0}
 
 sum_timely : (sum : ℕ) → Timely (time_of sum)
 unfolding time_of
@@ -49,15 +48,15 @@ fixed_timely None time = omega arith
 fixed_timely (Fixed duration) time = sum_timely _
 fixed_timely (PerByte duration) time = omega arith
 
-due_timely : (d : Deadline) (fixed : Due) (n time : ℕ) → time_in fixed < 0x10000000000000000 → Timely (due_of d fixed n time)
+due_timely : (d : Deadline) (fixed : Option ℕ) (n time : ℕ) → time_in fixed < 0x10000000000000000 → Timely (due_of d fixed n time)
 due_timely None fixed n time h = omega arith
 due_timely (Fixed duration) fixed n time h = h
 due_timely (PerByte duration) fixed n time h = sum_timely _
 
 module _ (p : Progress) (fits : Fits p) where
-  accepted_fits : (t : Timing) (busy : Bool) → Timely t → Fits (accepted_by t busy p).progress
-  accepted_fits OutOfRange busy h = fits
-  accepted_fits (Told fixed) busy h = (omega arith, omega arith, h)
+  accepted_fits : (t : Result (Option ℕ) Refusal) (busy : Bool) → Timely t → Fits (accepted_by t busy p).progress
+  accepted_fits (Err refusal) busy h = fits
+  accepted_fits (Ok fixed) busy h = (omega arith, omega arith, h)
 
   begun_fits : (s : Script) (settings : Settings) (room : ℕ) (busy : Bool) (time : ℕ) → Fits (begun_by s p settings room busy time).progress
   begun_fits (refused r) settings room busy time = fits
@@ -79,9 +78,9 @@ module _ (p : Progress) (fits : Fits p) where
   handed_fits (turn s landing) settings address time =
       by_test (λ (h : Handed). Fits h.progress) (out_of_turn p) _ _ (λ e. fits)
       (λ e. timed (due_of settings.deadline p.fixed (carries s) time) (due_timely settings.deadline p.fixed (carries s) time fits.2)) where
-        timed : (t : Timing) → Timely t → Fits (handed_by t (built_of 32 address s).list p).progress
-        timed OutOfRange h = fits
-        timed (Told due) h = (fits.0, h, fits.2)
+        timed : (t : Result (Option ℕ) Refusal) → Timely t → Fits (handed_by t (built_of 32 address s).list p).progress
+        timed (Err refusal) h = fits
+        timed (Ok due) h = (fits.0, h, fits.2)
 
   asked_fits : (s : Script) (settings : Settings) (address time : ℕ) → Fits (next_by s p settings address time).progress
   asked_fits (refused r) settings address time = fits

@@ -1,5 +1,6 @@
 -- A record that is written is a record, and is read back as it was; whatever else the memory held.
 -- Assumes nothing.
+use Rattle.std.specs.Prelude.{Option, Some, None}
 use Prim.Native.Nat.{ℕ, ◌<◌}
 use native.Mathlib.Omega.{arith}
 use mathlib.Core.Path.{◌≡◌, refl}
@@ -8,8 +9,6 @@ use mathlib.Core.List.{List, [], ◌∷◌, ◌++◌}
 use lib.ListN.{length, drop}
 use lib.Dec.{leb}
 use borrow.Author.Tests.{le-leb}
-use Rattle.outcome.specs.declared.Due.{Due}
-use Rattle.outcome.specs.declared.Due.TheVariants.{Never, At}
 use Rattle.transaction.specs.declared.Progress.{Progress}
 use Rattle.wire.specs.Numbers.{time_bytes, time_at}
 use Rattle.wire.proofs.Numbers.{time_returns}
@@ -26,27 +25,27 @@ Said p =
     (agreeing (record_flags p) (time_in p.due) (time_in p.fixed) ≡ true)
     × (progress_by (record_flags p) p.place (time_in p.due) (time_in p.fixed) ≡ p)
 
-abbrev whole : ℕ → Bool → Due → Bool → Bool → Due → Progress
+abbrev whole : ℕ → Bool → Option ℕ → Bool → Bool → Option ℕ → Progress
 whole place outstanding due polled failed fixed =
     record { place = place; outstanding = outstanding; due = due; polled = polled; failed = failed; fixed = fixed }
 
-flags_return : (n : ℕ) (o : Bool) (d : Due) (p f : Bool) (x : Due) → standing (whole n o d p f x) ≡ true → Said (whole n o d p f x)
+flags_return : (n : ℕ) (o : Bool) (d : Option ℕ) (p f : Bool) (x : Option ℕ) → standing (whole n o d p f x) ≡ true → Said (whole n o d p f x)
 unfolding agreeing progress_by
 flags_return n true d p true x e = absurd (false≢true e)
-flags_return n true Never true false Never e = (refl, refl)
-flags_return n true Never true false (At t) e = (refl, refl)
-flags_return n true Never false false Never e = (refl, refl)
-flags_return n true Never false false (At t) e = (refl, refl)
-flags_return n true (At u) true false Never e = (refl, refl)
-flags_return n true (At u) true false (At t) e = (refl, refl)
-flags_return n true (At u) false false Never e = (refl, refl)
-flags_return n true (At u) false false (At t) e = (refl, refl)
+flags_return n true None true false None e = (refl, refl)
+flags_return n true None true false (Some t) e = (refl, refl)
+flags_return n true None false false None e = (refl, refl)
+flags_return n true None false false (Some t) e = (refl, refl)
+flags_return n true (Some u) true false None e = (refl, refl)
+flags_return n true (Some u) true false (Some t) e = (refl, refl)
+flags_return n true (Some u) false false None e = (refl, refl)
+flags_return n true (Some u) false false (Some t) e = (refl, refl)
 flags_return n false d true f x e = absurd (false≢true e)
-flags_return n false (At u) false f x e = absurd (false≢true e)
-flags_return n false Never false true Never e = (refl, refl)
-flags_return n false Never false true (At t) e = (refl, refl)
-flags_return n false Never false false Never e = (refl, refl)
-flags_return n false Never false false (At t) e = (refl, refl)
+flags_return n false (Some u) false f x e = absurd (false≢true e)
+flags_return n false None false true None e = (refl, refl)
+flags_return n false None false true (Some t) e = (refl, refl)
+flags_return n false None false false None e = (refl, refl)
+flags_return n false None false false (Some t) e = (refl, refl)
 
 module _ (state : List ℕ) (p : Progress) (fits : Fits p) (stands : standing p ≡ true) where
   abbrev rest : List ℕ

@@ -1,5 +1,7 @@
 -- Every record that a call leaves has the form that its layout demands, so that the next call takes it for what it is.
 -- Assumes nothing.
+use Rattle.std.specs.Prelude.{Option, Result, Ok, Err}
+use Rattle.refusal.specs.declared.Refusal.{Refusal}
 use Prim.Native.Nat.{ℕ}
 use mathlib.Core.Path.{◌≡◌, refl, sym}
 use mathlib.Core.Bool.{Bool, true, false, not, ◌||◌, false≢true}
@@ -16,8 +18,6 @@ use Rattle.turns.specs.Plan.{built_of}
 use Rattle.turns.specs.Turns.{Turn, turn, over, beyond, carries, receives, turns_of, turn_at}
 use Rattle.transaction.specs.declared.Settings.{Settings}
 use Rattle.transaction.specs.declared.Progress.{Progress}
-use Rattle.transaction.specs.declared.Timing.{Timing}
-use Rattle.transaction.specs.declared.Timing.TheVariants.{Told, OutOfRange}
 use Rattle.transaction.specs.declared.Handed.{Handed}
 use Rattle.transaction.specs.declared.Completed.{Completed}
 use Rattle.transaction.specs.declared.Abandoned.{Abandoned}
@@ -36,9 +36,9 @@ module _ (before : Progress) (stands : Stands before) where
   begun_stands (refused r) settings room busy time = stands
   begun_stands (asks os) settings room busy time =
       by_test (λ (b : Begun). Stands b.progress) (ltb room (read_total os)) _ _ (λ e. stands) (λ e. timed (fixed_of settings.deadline time)) where
-        timed : (t : Timing) → Stands (accepted_by t busy before).progress
-        timed OutOfRange = stands
-        timed (Told fixed) = refl
+        timed : (t : Result (Option ℕ) Refusal) → Stands (accepted_by t busy before).progress
+        timed (Err refusal) = stands
+        timed (Ok fixed) = refl
 
   pub begin_stands : (settings : Settings) (address : ℕ) (script : List ℕ) (room : ℕ) (busy : Bool) (time : ℕ)
       → Stands (begin_of before settings address script room busy time).progress
@@ -60,9 +60,9 @@ module _ (p : Progress) (stands : Stands p) where
   handed_stands (turn s landing) settings address time =
       by_test (λ (h : Handed). Stands h.progress) (out_of_turn p) _ _ (λ e. stands)
       (λ e. timed e (due_of settings.deadline p.fixed (carries s) time)) where
-        timed : out_of_turn p ≡ false → (t : Timing) → Stands (handed_by t (built_of 32 address s).list p).progress
-        timed e OutOfRange = stands
-        timed e (Told due) = awaiting_stands p.outstanding p.failed e
+        timed : out_of_turn p ≡ false → (t : Result (Option ℕ) Refusal) → Stands (handed_by t (built_of 32 address s).list p).progress
+        timed e (Err refusal) = stands
+        timed e (Ok due) = awaiting_stands p.outstanding p.failed e
 
   asked_stands : (s : Script) (settings : Settings) (address time : ℕ) → Stands (next_by s p settings address time).progress
   asked_stands (refused r) settings address time = stands

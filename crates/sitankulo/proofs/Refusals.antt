@@ -1,5 +1,6 @@
 -- 01, "Numbers of refusals": "No refusal writes .. a lent output of the C layer".
 -- Assumes nothing.
+use Rattle.std.specs.Prelude.{Option, Some, None, Err}
 use Prim.Native.Nat.{ℕ, ◌+◌, ◌*◌, ◌%◌, ◌≤◌}
 use native.Mathlib.Omega.{arith}
 use mathlib.Core.Path.{◌≡◌}
@@ -8,6 +9,8 @@ use mathlib.Core.List.{List, ◌++◌}
 use lib.ListN.{length, drop}
 use lib.Seq.{paste}
 use lib.Dec.{leb, eqb}
+use Rattle.refusal.specs.declared.Refusal.{Refusal}
+use Rattle.refusal.specs.declared.Refusal.TheVariants as refusal
 use Rattle.wire.specs.Numbers.{word_bytes}
 use Rattle.list.specs.declared.Built.{Built}
 use Rattle.bus_clear.specs.declared.Pins.{Pins}
@@ -22,18 +25,13 @@ use Rattle.bus_clear.specs.Pins.{change_bytes}
 use Rattle.bus_clear.specs.Clear.{fresh_of, step_of}
 use Rattle.controller.specs.declared.model.Ending.{Ending as ModelEnding}
 use Rattle.controller.specs.declared.model.Ending.TheVariants.{Stuck, Refused, Finished}
-use Rattle.controller.specs.declared.model.Answer.TheVariants.{Ran}
 use Rattle.controller.specs.declared.model.Report.{Report}
 use Rattle.controller.specs.Model.{Run, events_of}
 use Rattle.controller.specs.Traces.{ending_of, left_of, traffic_bytes, received_bytes, trace_fits, trace_roomless}
-use Rattle.sitankulo.specs.declared.clear_layout.Decoded.{Decoded}
-use Rattle.sitankulo.specs.declared.clear_layout.Decoded.TheVariants.{Held, Foreign}
-use Rattle.sitankulo.specs.declared.clears.Telling.{Telling}
-use Rattle.sitankulo.specs.declared.clears.Telling.TheVariants.{Refuses, Tells}
 use Rattle.sitankulo.specs.Answers.{packed, yes}
 use Rattle.sitankulo.specs.Lists.{list_number, handed_out, ListLeft}
 use Rattle.sitankulo.specs.ClearLayout.{decoded_of}
-use Rattle.sitankulo.specs.Clears.{poll_told, step_told, roomed, fresh_call, step_call, ClearLeft}
+use Rattle.sitankulo.specs.Clears.{Told, tells, poll_told, step_told, roomed, fresh_call, step_call, ClearLeft}
 use Rattle.sitankulo.specs.ClearRuns.{Running, refuses, runs, ending_number, RunLeft}
 use Rattle.sitankulo.specs.Modelling.{ending_answer, report_answer, whole, ModelLeft}
 use Rattle.sitankulo.specs.Names.{told_answer, told_text}
@@ -64,16 +62,16 @@ list_refusal_writes_nothing b r words words' fifo fifo' left given =
 
 -- a fresh clear and a poll
 module _ (r : ℕ) (given : Refusing r) (clear clear' changes changes' : List ℕ) where
-  abbrev Kept : Telling → Type 0
+  abbrev Kept : Told → Type 0
   Kept t = ClearLeft t r clear clear' changes changes' → (clear' ≡ clear) × (changes' ≡ changes)
 
-  refusing_kept : (number : ℕ) → Kept (Refuses number)
-  refusing_kept number left = (left.1, left.2)
+  refusing_kept : (x : Refusal) → Kept (Err x)
+  refusing_kept x left = (left.1, left.2)
 
-  roomed_kept : (number : ℕ) (next : BusClear) (pins : Pins) → ((d : ℕ) → r ≡ packed number d → ⊥) → Kept (roomed (Tells number next pins) clear changes)
+  roomed_kept : (number : ℕ) (next : BusClear) (pins : Pins) → ((d : ℕ) → r ≡ packed number d → ⊥) → Kept (roomed (tells number next pins) clear changes)
   roomed_kept number next pins never =
-      by_test Kept (leb 10 (length clear) && leb (length (change_bytes pins)) (length changes)) (Tells number next pins) (Refuses 7)
-      (λ t left. absurd (never (length (change_bytes pins)) left.0)) (λ t. refusing_kept 7)
+      by_test Kept (leb 10 (length clear) && leb (length (change_bytes pins)) (length changes)) (tells number next pins) (Err refusal.Room)
+      (λ t left. absurd (never (length (change_bytes pins)) left.0)) (λ t. refusing_kept refusal.Room)
 
   free : (d : ℕ) → r ≡ packed 0 d → ⊥
   free d e = omega arith
@@ -84,11 +82,11 @@ module _ (r : ℕ) (given : Refusing r) (clear clear' changes changes' : List �
   poll_kept : (told : Answer) (next : BusClear) → Kept (roomed (poll_told told next) clear changes)
   poll_kept answer.Ready next = roomed_kept 0 next Still free
   poll_kept (answer.Pending pins) next = roomed_kept 255 next pins waits
-  poll_kept answer.ClockRange next = refusing_kept 13
+  poll_kept answer.ClockRange next = refusing_kept refusal.ClockRange
 
-  step_kept : (d : Decoded) (pins time sda : ℕ) → Kept (roomed (step_told d pins time sda) clear changes)
-  step_kept Foreign pins time sda = refusing_kept 5
-  step_kept (Held c) pins time sda = poll_kept (step_of c (yes pins) time (yes sda)).answer (step_of c (yes pins) time (yes sda)).next
+  step_kept : (d : Option BusClear) (pins time sda : ℕ) → Kept (roomed (step_told d pins time sda) clear changes)
+  step_kept None pins time sda = refusing_kept refusal.Shape
+  step_kept (Some c) pins time sda = poll_kept (step_of c (yes pins) time (yes sda)).answer (step_of c (yes pins) time (yes sda)).next
 
   pub fresh_refusal_writes_nothing :
       (pins time : ℕ)
@@ -123,7 +121,7 @@ run_refusal_writes_nothing t (runs p) r clear clear' changes changes' report rep
 abbrev told : Run → Report
 told run =
     record {
-      answer = Ran (ending_of run);
+      answer = Some (ending_of run);
       received = length (received_bytes (events_of run));
       events = length (events_of run);
       refuses = left_of run;

@@ -1,12 +1,18 @@
 -- The numbers that calls answer, after include/sitankulo.h.
-use Rattle.std.specs.Prelude.{ℕ, ◌+◌, ◌*◌, Bool, cond, not, List, eqb}
+use Rattle.std.specs.Prelude.{ℕ, ◌+◌, ◌*◌, Bool, cond, not, List, eqb, Result, Ok, Err}
 use Rattle.std.proofs.Math.Seq.{paste}
+use Rattle.refusal.specs.declared.Refusal.{Refusal}
 use Rattle.refusal.specs.Numbers.{number_of}
 use Rattle.refusal.specs.declared.Refusal.TheVariants.{Shape, Room, ClockRange, ListRefused}
 
 -- "bits 0 to 7: 0, a code below, or a refusal", "bits 8 to 15: what the call says of its answer"
 abbrev pub packed : ℕ → ℕ → ℕ
 packed number detail = number + 256 * detail
+
+-- a call's answer, or its refusal by number
+abbrev pub told : Result ℕ Refusal → ℕ
+told (Ok answer) = answer
+told (Err r) = number_of r
 
 -- refusals that the calls themselves give
 abbrev pub shape : ℕ

@@ -1,5 +1,6 @@
 -- A run of the bus clear in lent memory, after include/sitankulo.h, `sitankulo_clear_run`.
-use Rattle.std.specs.Prelude.{ℕ, ◌≡◌, Bool, cond, ◌&&◌, List, [], ◌∷◌, ◌++◌, map, length, leb}
+use Rattle.bus_clear.specs.declared.BusClear.{BusClear}
+use Rattle.std.specs.Prelude.{ℕ, ◌≡◌, Bool, cond, ◌&&◌, List, [], ◌∷◌, ◌++◌, map, length, leb, Option, Some, None}
 use Rattle.std.proofs.Math.Seq.{paste}
 use Rattle.std.proofs.lemmas.List.Edits.{sets}
 use Rattle.wire.specs.Numbers.{time_bytes}
@@ -8,8 +9,6 @@ use Rattle.bus_clear.specs.declared.run.Ending.TheVariants.{Ready, GivenUp, Spen
 use Rattle.bus_clear.specs.declared.run.Terms.{Terms}
 use Rattle.bus_clear.specs.Pins.{change_byte}
 use Rattle.bus_clear.specs.Runs.{Polled, polled_over, all_changes, run_fits}
-use Rattle.sitankulo.specs.declared.clear_layout.Decoded.{Decoded}
-use Rattle.sitankulo.specs.declared.clear_layout.Decoded.TheVariants.{Held, Foreign}
 use Rattle.sitankulo.specs.Answers.{shape, room, yes}
 use Rattle.sitankulo.specs.ClearLayout.{clear_size, clear_bytes}
 
@@ -42,9 +41,9 @@ abbrev pub roomed_run : Terms → Polled → List ℕ → List ℕ → Running
 roomed_run t p changes report =
     cond (leb report_size (length report) && run_fits t p (length changes)) (runs p) (refuses room)
 
-abbrev pub run_call : Decoded → Terms → List ℕ → List ℕ → List ℕ → List ℕ → Running
-run_call Foreign t clocks levels changes report = refuses shape
-run_call (Held c) t clocks levels changes report = roomed_run t (polled_over t clocks levels c) changes report
+abbrev pub run_call : Option BusClear → Terms → List ℕ → List ℕ → List ℕ → List ℕ → Running
+run_call None t clocks levels changes report = refuses shape
+run_call (Some c) t clocks levels changes report = roomed_run t (polled_over t clocks levels c) changes report
 
 -- the answer, and the lent memories at exit
 abbrev pub running_answer : Running → ℕ

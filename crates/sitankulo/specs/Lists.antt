@@ -1,6 +1,9 @@
 -- One command list in lent memory, after include/sitankulo.h, "one command list".
-use Rattle.std.specs.Prelude.{ℕ, ◌/◌, ◌%◌, ◌≡◌, Bool, cond, List, length, leb, eqb}
+use Rattle.std.specs.Prelude.{ℕ, ◌/◌, ◌%◌, ◌≡◌, Bool, cond, ◌&&◌, List, length, leb, eqb, Result, Ok, Err}
 use Rattle.wire.specs.Numbers.{word_bytes}
+use Rattle.refusal.specs.declared.Refusal.{Refusal}
+use Rattle.refusal.specs.declared.Refusal.TheVariants.{Room}
+use Rattle.list.specs.declared.CommandList.{CommandList}
 use Rattle.list.specs.declared.Built.{Built}
 use Rattle.list.specs.Lists.{answer_number, write_of, read_of}
 use Rattle.sitankulo.specs.Answers.{packed, room, written}
@@ -43,6 +46,16 @@ words_after b words fifo = written (handed_out b words fifo) (word_bytes b.list.
 
 abbrev pub fifo_after : Built → List ℕ → List ℕ → List ℕ
 fifo_after b words fifo = written (handed_out b words fifo) b.list.fifo b.list.count fifo
+
+-- a list by itself: "`words` gets 32 bytes, `fifo` as many as that", or 7
+abbrev pub fits : CommandList → List ℕ → List ℕ → Bool
+fits l words fifo = leb 32 (length words) && leb l.count (length fifo)
+
+abbrev pub LaidOut : CommandList → Result ℕ Refusal → List ℕ → List ℕ → List ℕ → List ℕ → Type 0
+LaidOut l r words words' fifo fifo' =
+    (r ≡ cond (fits l words fifo) (Ok (packed 0 l.count)) (Err Room))
+    × (words' ≡ written (fits l words fifo) (word_bytes l.words) 32 words)
+    × (fifo' ≡ written (fits l words fifo) l.fifo l.count fifo)
 
 -- WHAT A CALL LEAVES: its answer, and each lent memory as it was and as it is
 abbrev pub ListLeft : Built → ℕ → List ℕ → List ℕ → List ℕ → List ℕ → Type 0

@@ -1,10 +1,8 @@
 -- A run on the controller model over byte slices, after include/sitankulo.h, `sitankulo_model_run`.
-use Rattle.std.specs.Prelude.{ℕ, ◌+◌, ◌*◌, ◌≡◌, Bool, cond, List, length, eqb}
+use Rattle.std.specs.Prelude.{ℕ, ◌+◌, ◌*◌, ◌≡◌, Bool, cond, List, length, eqb, Option, Some, None}
 use Rattle.wire.specs.Numbers.{words_of}
 use Rattle.controller.specs.declared.model.Ending.{Ending}
 use Rattle.controller.specs.declared.model.Ending.TheVariants.{Stuck, Refused, Finished}
-use Rattle.controller.specs.declared.model.Answer.{Answer}
-use Rattle.controller.specs.declared.model.Answer.TheVariants.{Ran, NoRoom}
 use Rattle.controller.specs.declared.model.Report.{Report}
 use Rattle.controller.specs.Model.{Run, phase_number, events_of}
 use Rattle.controller.specs.Traces.{run_of, traffic_bytes, received_bytes, trace_fits, trace_report, laid}
@@ -17,9 +15,9 @@ ending_answer Refused = 248
 ending_answer (Finished phase) = packed 0 (phase_number phase)
 
 -- "Bits 16 to 23 of the answer: how many bytes were received, .. Bits 24 to 31: how many events went over the bus"; or 7
-abbrev pub told_by : Answer → ℕ → ℕ → ℕ
-told_by NoRoom received events = room
-told_by (Ran ending) received events = ending_answer ending + 65536 * received + 16777216 * events
+abbrev pub told_by : Option Ending → ℕ → ℕ → ℕ
+told_by None received events = room
+told_by (Some ending) received events = ending_answer ending + 65536 * received + 16777216 * events
 
 abbrev pub report_answer : Report → ℕ
 report_answer r = told_by r.answer r.received r.events

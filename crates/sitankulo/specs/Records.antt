@@ -1,24 +1,21 @@
 -- THE RECORD of a transaction in memory, 25 bytes, after include/sitankulo.h: "byte 0 holds flags (1 a list is outstanding, 2 its poll
 -- has succeeded, 4 the transaction has failed, 8 the list has a due time, 16 there is a fixed deadline); 1 to 8 how many lists are
 -- completed; 9 to 16 the due time; 17 to 24 the fixed deadline; 0 where there is none".
-use Rattle.std.specs.Prelude.{ℕ, ◌+◌, ◌%◌, Bool, true, false, cond, not, ◌&&◌, ◌||◌, List, ◌∷◌, ◌++◌, length, get_or, leb, ltb, eqb}
-use Rattle.outcome.specs.declared.Due.{Due}
-use Rattle.outcome.specs.declared.Due.TheVariants.{Never, At}
+use Rattle.std.specs.Prelude.{ℕ, ◌+◌, ◌%◌, Bool, cond, not, ◌&&◌, ◌||◌, List, ◌∷◌, ◌++◌, length, get_or, leb, ltb, eqb, Option, is_some, unwrap_or}
+use Rattle.std.specs.Bool.{then_some}
 use Rattle.outcome.specs.Packed.{bit_of}
 use Rattle.transaction.specs.declared.Progress.{Progress}
 use Rattle.wire.specs.Numbers.{time_bytes, time_at}
 
 -- a time as a flag and a number
-abbrev pub timed : Due → Bool
-timed Never = false
-timed (At time) = true
+abbrev pub timed : Option ℕ → Bool
+timed due = is_some due
 
-abbrev pub time_in : Due → ℕ
-time_in Never = 0
-time_in (At time) = time
+abbrev pub time_in : Option ℕ → ℕ
+time_in due = unwrap_or due 0
 
-abbrev pub due_by : Bool → ℕ → Due
-due_by there time = cond there (At time) Never
+abbrev pub due_by : Bool → ℕ → Option ℕ
+due_by there time = then_some there time
 
 -- WRITTEN
 abbrev pub weighed : Bool → ℕ → ℕ

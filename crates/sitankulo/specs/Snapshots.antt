@@ -1,8 +1,6 @@
 -- What a snapshot means for a list by itself, after include/sitankulo.h, `sitankulo_classify`.
-use Rattle.std.specs.Prelude.{ℕ, ◌+◌, ◌*◌, Bool, cond, List, length, eqb}
+use Rattle.std.specs.Prelude.{ℕ, ◌+◌, ◌*◌, Bool, cond, List, length, eqb, Option, Some, None}
 use Rattle.wire.specs.Numbers.{words_of}
-use Rattle.outcome.specs.declared.Due.{Due}
-use Rattle.outcome.specs.declared.Due.TheVariants.{Never, At}
 use Rattle.outcome.specs.declared.Classified.{Classified}
 use Rattle.outcome.specs.Outcomes.{classify_of}
 use Rattle.outcome.specs.Answers.{answer_of}
@@ -10,8 +8,8 @@ use Rattle.outcome.specs.Packed.{unpacked}
 use Rattle.sitankulo.specs.Answers.{packed, list_refused, yes}
 
 -- "`limited`: it is due at `due`"
-abbrev pub due_of : Bool → ℕ → Due
-due_of limited due = cond limited (At due) Never
+abbrev pub due_of : Bool → ℕ → Option ℕ
+due_of limited due = cond limited (Some due) None
 
 -- "8 to 11 with the reason as detail"; "Bit 16 of the answer: its poll has succeeded by now."
 abbrev pub classified_answer : Classified → ℕ

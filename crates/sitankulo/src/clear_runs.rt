@@ -1,14 +1,14 @@
 // A run of the bus clear over a tape of samples.
-ghost use Rattle.std.specs.Prelude.{◌≡◌, cond, ◌≤◌, length};
+ghost use Rattle.std.specs.Prelude.{◌≡◌, ◌≤◌, length};
 ghost use Rattle.std.proofs.Math.Seq.{paste};
-ghost use Rattle.bus_clear.specs.Runs.{polled_over};
+ghost use Rattle.sitankulo.specs.Answers.{told};
 ghost use Rattle.sitankulo.specs.ClearLayout.{decoded_of};
-ghost use Rattle.sitankulo.specs.ClearRuns.{ending_number, terms_of, report_bytes, roomed_run, run_call, RunLeft};
+ghost use Rattle.sitankulo.specs.ClearRuns.{ending_number, terms_of, report_bytes, run_call, RunLeft};
 
-use crate::clear_layout::Decoded;
 use crate::{answer, clear_layout};
-use bus_clear::BusClear;
-use bus_clear::run::{Ending, Terms, Told};
+use bus_clear::run;
+use bus_clear::run::{Ending, Tape, Terms};
+use refusal::Refusal;
 
 // The bytes of a report, and where its parts stand.
 const REPORT: usize = 17;
@@ -17,7 +17,7 @@ const CHANGES_AT: usize = 8;
 
 const RESET_AT: usize = 16;
 
-// The numbers of endings are the header's.
+// Kept: the C interface's numbers, by a match: neither type is of this crate, so it has no From.
 fn ending_number(ending: Ending) -> u32
     ensures { result ≡ ending_number ending }
 {
@@ -30,15 +30,6 @@ fn ending_number(ending: Ending) -> u32
     }
 }
 
-fn flag(yes: bool) -> u8
-    ensures { result ≡ cond yes 1 0 }
-{
-    if yes {
-        return 1;
-    }
-    0
-}
-
 // Lays a report into the memory.
 fn put_report(polls: usize, changes: usize, reset: bool, memory: &mut [u8])
     requires { 17 ≤ length memory.old }
@@ -46,38 +37,30 @@ fn put_report(polls: usize, changes: usize, reset: bool, memory: &mut [u8])
 {
     wire::put_time(polls as u64, 0, memory);
     wire::put_time(changes as u64, CHANGES_AT, memory);
-    memory[RESET_AT] = flag(reset);
+    memory[RESET_AT] = u8::from(reset);
 }
 
-// Runs a clear that was read back from the lent memory.
-fn run_held(
-    held: BusClear,
-    terms: Terms,
-    clocks: &[u64],
-    levels: &[u8],
+// Runs the clear in the lent memory.
+fn run_clear(
     clear: &mut [u8],
+    terms: Terms,
+    tape: Tape<'_>,
     changes: &mut [u8],
     report: &mut [u8],
-) -> u32
-    requires { 10 ≤ length clear.old }
+) -> Result<u32, Refusal>
     ensures { RunLeft terms
-        (roomed_run terms (polled_over terms clocks.now levels.now held) changes.old report.old)
-        result clear.old clear.new changes.old changes.new report.old report.new }
+        (run_call (decoded_of clear.old) terms tape.entry.clocks.now tape.entry.levels.now changes.old report.old)
+        (told result) clear.old clear.new changes.old changes.new report.old report.new }
 {
+    let held = clear_layout::decode(clear).ok_or(Refusal::Shape)?;
     if report.len() < REPORT {
-        return answer::ROOM;
+        return Err(Refusal::Room);
     }
-    let ran = bus_clear::run::run(held, terms, clocks, levels, changes);
-    let told = ran.answer;
-    match told {
-        Told::NoRoom => answer::ROOM,
-        Told::Ran(ending) => {
-            let left = ran.clear;
-            clear_layout::put_clear(left, clear);
-            put_report(ran.polls, ran.changes, ran.reset, report);
-            ending_number(ending)
-        }
-    }
+    let ran = run::run(held, terms, tape, changes);
+    let ending = ran.answer.ok_or(Refusal::Room)?;
+    clear_layout::put_clear(ran.clear, clear);
+    put_report(ran.polls, ran.changes, ran.reset, report);
+    Ok(ending_number(ending))
 }
 
 // Polls over a tape.
@@ -97,18 +80,12 @@ pub fn sitankulo_clear_run(
         (run_call (decoded_of clear.old) (terms_of pins reset start limit budget) clocks.now levels.now changes.old report.old)
         result clear.old clear.new changes.old changes.new report.old report.new }
 {
-    let decoded = clear_layout::decode(clear);
-    match decoded {
-        Decoded::Foreign => answer::SHAPE,
-        Decoded::Held(held) => {
-            let terms = Terms {
-                pins: pins != 0,
-                reset: reset != 0,
-                start: start,
-                limit: limit,
-                budget: budget,
-            };
-            run_held(held, terms, clocks, levels, clear, changes, report)
-        }
-    }
+    let terms = Terms {
+        pins: pins != 0,
+        reset: reset != 0,
+        start,
+        limit,
+        budget,
+    };
+    answer::told(run_clear(clear, terms, Tape { clocks, levels }, changes, report))
 }

@@ -1,32 +1,41 @@
 // One command list, laid into lent memory.
 ghost use Rattle.std.specs.Prelude.{◌≤◌};
-ghost use Rattle.sitankulo.specs.Lists.{write_asked, read_asked, ListLeft};
+ghost use Rattle.sitankulo.specs.Answers.{told};
+ghost use Rattle.sitankulo.specs.Lists.{write_asked, read_asked, LaidOut, ListLeft};
 
 use crate::answer;
-use list::Built;
+use crate::answer::bit;
+use list::{Answer, Built, CommandList};
+use refusal::Refusal;
 
-// Lays a list into the lent memory, where there is one and room for it.
-fn hand_out(built: Built, words: &mut [u8], fifo: &mut [u8]) -> u32
-    requires { built.list.count ≤ 32 }
-    ensures { ListLeft built result words.old words.new fifo.old fifo.new }
+// The weights of the flags.
+const START: u8 = 1;
+
+const STOP: u8 = 2;
+
+const CONTINUES: u8 = 4;
+
+// Lays a list into the lent memory, where there is room for it.
+pub(crate) fn lay(list: CommandList, words: &mut [u8], fifo: &mut [u8]) -> Result<u32, Refusal>
+    requires { list.count ≤ 32 }
+    ensures { LaidOut list result words.old words.new fifo.old fifo.new }
 {
-    let told = built.answer;
-    let number = list::numbered(told);
-    let count = built.list.count;
-    if number != 0 {
-        return number as u32;
+    if words.len() < answer::WORDS || fifo.len() < list.count {
+        return Err(Refusal::Room);
     }
-    if words.len() < answer::WORDS {
-        return answer::ROOM;
+    wire::put_words(list.words, words);
+    wire::put_bytes(&list.fifo, list.count, fifo);
+    Ok(answer::pack(0, list.count as u8))
+}
+
+fn hand_out(built: Built, words: &mut [u8], fifo: &mut [u8]) -> Result<u32, Refusal>
+    requires { built.list.count ≤ 32 }
+    ensures { ListLeft built (told result) words.old words.new fifo.old fifo.new }
+{
+    match built.answer? {
+        Answer::Listed => lay(built.list, words, fifo),
+        Answer::NoList => Ok(answer::NONE),
     }
-    if fifo.len() < count {
-        return answer::ROOM;
-    }
-    let listed = built.list.words;
-    let bytes = built.list.fifo;
-    wire::put_words(listed, words);
-    wire::put_bytes(&bytes, count, fifo);
-    answer::pack(0, count as u8)
 }
 
 // The list that writes these bytes.
@@ -40,8 +49,8 @@ pub fn sitankulo_build_write(
     ensures { ListLeft (write_asked address bytes.now flags)
         result words.old words.new fifo.old fifo.new }
 {
-    let built = list::setup_write(address, bytes, flags % 2 == 1, flags / 2 % 2 == 1);
-    hand_out(built, words, fifo)
+    let built = list::setup_write(address, bytes, bit(flags, START), bit(flags, STOP));
+    answer::told(hand_out(built, words, fifo))
 }
 
 // The list that reads n bytes.
@@ -58,9 +67,9 @@ pub fn sitankulo_build_read(
     let built = list::setup_read(
         address,
         n,
-        flags % 2 == 1,
-        flags / 2 % 2 == 1,
-        flags / 4 % 2 == 1,
+        bit(flags, START),
+        bit(flags, STOP),
+        bit(flags, CONTINUES),
     );
-    hand_out(built, words, fifo)
+    answer::told(hand_out(built, words, fifo))
 }

@@ -1,32 +1,44 @@
 // What a snapshot of the controller means for a list.
-ghost use Rattle.std.specs.Prelude.{◌≡◌};
-ghost use Rattle.sitankulo.specs.Snapshots.{due_of, classified_answer, snapshot_answer};
+ghost use Rattle.std.specs.Prelude.{◌≡◌, cond, Ok, Err};
+ghost use Rattle.refusal.specs.declared.Refusal.TheVariants.{ListRefused};
+ghost use Rattle.sitankulo.specs.Answers.{told};
+ghost use Rattle.sitankulo.specs.Snapshots.{classified_answer, snapshot_answer};
+ghost use Rattle.sitankulo.specs.Transactions.{misfit, snapshot_of};
 
 use crate::answer;
-use outcome::{Classified, Due};
+use outcome::{Classified, Snapshot};
+use refusal::Refusal;
 
 // Bit 16 of an answer.
 const POLLED: u32 = 0x1_0000;
 
-fn due_at(limited: bool, due: u64) -> Due
-    ensures { result ≡ due_of limited due }
+// What is read off the controller, with the command words as bytes.
+pub(crate) fn snapshot_of(bits: u8, commands: &[u8], time: u64) -> Result<Snapshot, Refusal>
+    ensures { result ≡ cond (misfit commands.now) (Err ListRefused) (Ok (snapshot_of bits commands.now time)) }
 {
-    if limited {
-        return Due::At(due);
-    }
-    Due::Never
+    Ok(outcome::unpack(bits, answer::words_of(commands)?, time))
 }
 
 fn number(classified: Classified) -> u32
     ensures { result ≡ classified_answer classified }
 {
-    let told = classified.outcome;
-    let by_number = outcome::numbered(told);
-    let packed = answer::pack(by_number.number, by_number.reason);
-    if classified.polled {
-        return packed + POLLED;
-    }
-    packed
+    let told = outcome::Answer::from(classified.outcome);
+    answer::pack(told.number, told.reason) + POLLED * u32::from(classified.polled)
+}
+
+fn classify(
+    bits: u8,
+    commands: &[u8],
+    time: u64,
+    polled: u8,
+    limited: u8,
+    due: u64,
+) -> Result<u32, Refusal>
+    ensures { told result ≡ snapshot_answer bits commands.now time polled limited due }
+{
+    let snapshot = snapshot_of(bits, commands, time)?;
+    let due = (limited != 0).then_some(due);
+    Ok(number(outcome::classify(snapshot, polled != 0, due)))
 }
 
 // What a snapshot means for a list by itself.
@@ -40,9 +52,5 @@ pub fn sitankulo_classify(
 ) -> u32
     ensures { result ≡ snapshot_answer bits commands.now time polled limited due }
 {
-    if commands.len() != answer::WORDS {
-        return answer::LIST_REFUSED;
-    }
-    let snapshot = outcome::unpack(bits, wire::words_of(commands), time);
-    number(outcome::classify(snapshot, polled != 0, due_at(limited != 0, due)))
+    answer::told(classify(bits, commands, time, polled, limited, due))
 }

@@ -1,84 +1,159 @@
 // A transaction by numbers and byte slices. Its record is lent as `state`.
-ghost use Rattle.std.specs.Prelude.{◌≡◌, cond, ◌≤◌, length};
+ghost use Rattle.std.specs.Prelude.{◌≡◌, cond, length};
 ghost use Rattle.std.proofs.Math.Seq.{paste};
+ghost use Rattle.refusal.specs.Numbers.{number_of};
 ghost use Rattle.script.specs.Scripts.{script_of};
 ghost use Rattle.wire.specs.Numbers.{word_bytes};
-ghost use Rattle.sitankulo.specs.Transactions.{number_in, succeeds, goes_ahead, renewed, settings_of, snapshot_of, foreign_number, begun_for, roomless, begin_answer, handed_for, next_answer, completed_for, landed_for, tells, complete_answer, abandoned_for, abandon_answer};
+ghost use Rattle.transaction.specs.Numbers.{begin_number, completion_answer};
+ghost use Rattle.sitankulo.specs.Answers.{told};
+ghost use Rattle.sitankulo.specs.Transactions.{number_in, succeeds, goes_ahead, renewed, roomless, asked_settings, held_of, begun_for, begin_answer, handed_for, next_answer, completed_for, landed_for, tells, complete_answer, abandoned_for, abandon_answer, BeginLeft, NextLeft, CompleteLeft, AbandonLeft};
 
-use crate::records;
-use outcome::Snapshot;
-use script::Verdict;
-use transaction::{Deadline, Settings};
+use crate::snapshots::snapshot_of;
+use crate::{answer, lists, records};
+use outcome::Outcome;
+use refusal::{Numbered, Refusal};
+use transaction::{Beginning, Deadline, Handing, Progress, Request, Settings};
 
-const SHAPE: u8 = 5;
-
-const ROOM: u8 = 7;
-
-const CLOCK_RANGE: u8 = 13;
-
-const LIST_REFUSED: u8 = 14;
-
-const CLEAR: u8 = 253;
-
-const PENDING: u8 = 255;
-
-const LAST_KIND: u8 = 2;
-
-const WORDS: usize = 32;
-
-fn settings_of(kind: u8, duration: u64) -> Settings
-    ensures { result ≡ settings_of kind duration }
+// A deadline's kind is a number.
+#[tactic(auto, unfolding(crate::specs::Transactions::settings_of))]
+fn settings_of(kind: u8, duration: u64) -> Result<Settings, Refusal>
+    ensures { result ≡ asked_settings kind duration }
 {
-    if kind == 0 {
-        return Settings {
-            deadline: Deadline::None,
-        };
-    }
-    if kind == 1 {
-        return Settings {
-            deadline: Deadline::Fixed(duration),
-        };
-    }
-    Settings {
-        deadline: Deadline::PerByte(duration),
-    }
+    let deadline = match kind {
+        0 => Deadline::None,
+        1 => Deadline::Fixed(duration),
+        2 => Deadline::PerByte(duration),
+        _ => return Err(Refusal::Shape),
+    };
+    Ok(Settings { deadline })
 }
 
-fn snapshot_of(bits: u8, commands: &[u8], time: u64) -> Snapshot
-    requires { 32 ≤ length commands.now }
-    ensures { result ≡ snapshot_of bits commands.now time }
+// The record. Where no call left it, the script's refusals come first.
+fn held(state: &[u8], request: Request<'_>) -> Result<Progress, Refusal>
+    ensures { result ≡ held_of state.now (script_of request.entry.address request.entry.script.now) }
 {
-    outcome::unpack(bits, wire::words_of(commands), time)
-}
-
-// A record that no call left: the script's refusals come first.
-fn foreign_number(address: u32, script: &[u8]) -> u8
-    ensures { result ≡ foreign_number (script_of address script.now) }
-{
-    let verdict = script::read_script(address, script);
-    match verdict {
-        Verdict::Refused(refusal) => refusal::number(refusal),
-        Verdict::Accepted(_) => SHAPE,
+    let read = records::read(state);
+    if read.is_err() {
+        script::read_script(request.address, request.script)?;
     }
-}
-
-fn does_go_ahead(number: u8) -> bool
-    ensures { result ≡ goes_ahead number }
-{
-    number == 0 || number == CLEAR
+    read
 }
 
 // Too little room for a record comes before a clock out of range.
-fn roomless_number(number: u8) -> u8
-    ensures { result ≡ roomless number }
+fn roomless(answer: Result<Beginning, Refusal>) -> Refusal
+    ensures { number_of result ≡ roomless (begin_number answer) }
 {
-    if does_go_ahead(number) {
-        return ROOM;
+    match answer {
+        Ok(_) | Err(Refusal::ClockRange) => Refusal::Room,
+        Err(refusal) => refusal,
     }
-    if number == CLOCK_RANGE {
-        return ROOM;
+}
+
+// Every answer but a refusal tells of the list.
+fn does_tell(answer: Result<Outcome, Refusal>) -> bool
+    ensures { result ≡ tells (completion_answer answer).number }
+{
+    answer.is_ok()
+}
+
+// Accepts a script.
+#[tactic(auto, using(crate::proofs::LawsBegin::starts), unfolding(crate::specs::Transactions::begin_answer, crate::specs::Transactions::begun_for))]
+fn begin(
+    state: &mut [u8],
+    deadline: u8,
+    duration: u64,
+    request: Request<'_>,
+    room: usize,
+    busy: u8,
+    time: u64,
+) -> Result<u32, Refusal>
+    ensures { BeginLeft deadline
+        (begun_for deadline duration request.entry.address request.entry.script.now room busy time)
+        (told result) state.old state.new }
+{
+    let settings = settings_of(deadline, duration)?;
+    let begun = transaction::begin(
+        Progress::default(),
+        settings,
+        request,
+        room,
+        busy != 0,
+        time,
+    );
+    if state.len() < records::SIZE {
+        return Err(roomless(begun.answer));
     }
-    number
+    let beginning = begun.answer?;
+    records::encode(begun.progress, state);
+    Ok(u32::from(beginning.number()))
+}
+
+// The next list.
+#[tactic(auto, using(crate::proofs::LawsForeign::unsuccessful, crate::proofs::LawsForeign::foreign_told, crate::proofs::LawsRecords::record_long), unfolding(crate::specs::Transactions::next_answer, crate::specs::Transactions::list_answer, crate::specs::Transactions::handed_for))]
+fn next(
+    state: &mut [u8],
+    deadline: u8,
+    duration: u64,
+    request: Request<'_>,
+    time: u64,
+    words: &mut [u8],
+    fifo: &mut [u8],
+) -> Result<u32, Refusal>
+    ensures { NextLeft deadline (script_of request.entry.address request.entry.script.now)
+        (handed_for state.old deadline duration request.entry.address request.entry.script.now time)
+        (told result) state.old state.new words.old words.new fifo.old fifo.new }
+{
+    let settings = settings_of(deadline, duration)?;
+    let before = held(state, request)?;
+    let handed = transaction::next_list(before, settings, request, time);
+    match handed.answer? {
+        Handing::NoneLeft => Ok(answer::NONE),
+        Handing::Listed => {
+            let detail = lists::lay(handed.list, words, fifo)?;
+            records::encode(handed.progress, state);
+            Ok(detail)
+        }
+    }
+}
+
+// What became of the outstanding list.
+#[tactic(auto, using(crate::proofs::LawsForeign::silent, crate::proofs::LawsForeign::foreign_told, crate::proofs::LawsRecords::record_long), unfolding(crate::specs::Transactions::complete_answer, crate::specs::Transactions::completed_for, crate::specs::Transactions::landed_for))]
+fn complete(
+    state: &mut [u8],
+    request: Request<'_>,
+    bits: u8,
+    commands: &[u8],
+    time: u64,
+    received: &[u8],
+    buffer: &mut [u8],
+) -> Result<u32, Refusal>
+    ensures { CompleteLeft commands.now (script_of request.entry.address request.entry.script.now)
+        (completed_for state.old request.entry.address request.entry.script.now bits commands.now time received.now buffer.old)
+        (landed_for state.old request.entry.address request.entry.script.now bits commands.now time received.now buffer.old)
+        (told result) state.old state.new buffer.old buffer.new }
+{
+    let snapshot = snapshot_of(bits, commands, time)?;
+    let before = held(state, request)?;
+    let completed = transaction::complete(before, request, snapshot, received, buffer);
+    if does_tell(completed.answer) {
+        records::encode(completed.progress, state);
+    }
+    let told = transaction::completion_answer(completed.answer);
+    Ok(answer::pack(told.number, told.reason))
+}
+
+// Gives the transaction up.
+#[tactic(auto, using(crate::proofs::LawsForeign::halts, crate::proofs::LawsBegin::gives_up, crate::proofs::LawsRecords::record_long), unfolding(crate::specs::Transactions::abandon_answer, crate::specs::Transactions::abandoned_for))]
+fn abandon(state: &mut [u8], bits: u8, commands: &[u8], time: u64) -> Result<u32, Refusal>
+    ensures { AbandonLeft commands.now (abandoned_for state.old bits commands.now time)
+        (told result) state.old state.new }
+{
+    let snapshot = snapshot_of(bits, commands, time)?;
+    let before = records::read(state)?;
+    let abandoned = transaction::abandon(before, snapshot);
+    let abandonment = abandoned.answer?;
+    records::encode(abandoned.progress, state);
+    Ok(u32::from(abandonment.number()))
 }
 
 // Accepts a script.
@@ -97,29 +172,8 @@ pub fn sitankulo_begin(
         × (state.new ≡ cond (goes_ahead result) (renewed state.old
         (begun_for deadline duration address script.now room busy time).progress) state.old) }
 {
-    if deadline > LAST_KIND {
-        return SHAPE as u32;
-    }
-    let begun = transaction::begin(
-        records::blank(),
-        settings_of(deadline, duration),
-        address,
-        script,
-        room,
-        busy != 0,
-        time,
-    );
-    let answer = begun.answer;
-    let progress = begun.progress;
-    let number = transaction::begin_number(answer);
-    if state.len() < records::SIZE {
-        return roomless_number(number) as u32;
-    }
-    if !does_go_ahead(number) {
-        return number as u32;
-    }
-    records::encode(progress, state);
-    number as u32
+    let request = Request { address, script };
+    answer::told(begin(state, deadline, duration, request, room, busy, time))
 }
 
 // The next list.
@@ -146,56 +200,8 @@ pub fn sitankulo_next(
         (handed_for state.old deadline duration address script.now time).list.count)
         fifo.old) }
 {
-    if deadline > LAST_KIND {
-        return SHAPE as u32;
-    }
-    let held = records::read(state);
-    if !held.ours {
-        return foreign_number(address, script) as u32;
-    }
-    let before = held.progress;
-    let handed = transaction::next_list(
-        before,
-        settings_of(deadline, duration),
-        address,
-        script,
-        time,
-    );
-    let answer = handed.answer;
-    let number = transaction::next_number(answer);
-    if number != 0 {
-        return number as u32;
-    }
-    let list = handed.list;
-    let count = list.count;
-    if words.len() < WORDS {
-        return ROOM as u32;
-    }
-    if fifo.len() < count {
-        return ROOM as u32;
-    }
-    let progress = handed.progress;
-    let list_words = list.words;
-    let list_fifo = list.fifo;
-    records::encode(progress, state);
-    wire::put_words(list_words, words);
-    wire::put_bytes(&list_fifo, count, fifo);
-    256 * count as u32
-}
-
-fn does_tell(number: u8) -> bool
-    ensures { result ≡ tells number }
-{
-    if number == 0 {
-        return true;
-    }
-    if number == PENDING {
-        return true;
-    }
-    if number < 8 {
-        return false;
-    }
-    number <= 11
+    let request = Request { address, script };
+    answer::told(next(state, deadline, duration, request, time, words, fifo))
 }
 
 // What became of the outstanding list.
@@ -219,32 +225,8 @@ pub fn sitankulo_complete(
         (landed_for state.old address script.now bits commands.now time received.now
         buffer.old) buffer.old) }
 {
-    if commands.len() != WORDS {
-        return LIST_REFUSED as u32;
-    }
-    let held = records::read(state);
-    if !held.ours {
-        return foreign_number(address, script) as u32;
-    }
-    let before = held.progress;
-    let completed = transaction::complete(
-        before,
-        address,
-        script,
-        snapshot_of(bits, commands, time),
-        received,
-        buffer,
-    );
-    let progress = completed.progress;
-    let completion = completed.answer;
-    let answer = transaction::completion_answer(completion);
-    let number = answer.number;
-    let reason = answer.reason;
-    if !does_tell(number) {
-        return number as u32 + 256 * reason as u32;
-    }
-    records::encode(progress, state);
-    number as u32 + 256 * reason as u32
+    let request = Request { address, script };
+    answer::told(complete(state, request, bits, commands, time, received, buffer))
 }
 
 // Gives the transaction up.
@@ -254,21 +236,5 @@ pub fn sitankulo_abandon(state: &mut [u8], bits: u8, commands: &[u8], time: u64)
         × (state.new ≡ cond (goes_ahead result) (renewed state.old
         (abandoned_for state.old bits commands.now time).progress) state.old) }
 {
-    if commands.len() != WORDS {
-        return LIST_REFUSED as u32;
-    }
-    let held = records::read(state);
-    if !held.ours {
-        return SHAPE as u32;
-    }
-    let before = held.progress;
-    let abandoned = transaction::abandon(before, snapshot_of(bits, commands, time));
-    let answer = abandoned.answer;
-    let progress = abandoned.progress;
-    let number = transaction::abandon_number(answer);
-    if !does_go_ahead(number) {
-        return number as u32;
-    }
-    records::encode(progress, state);
-    number as u32
+    answer::told(abandon(state, bits, commands, time))
 }

@@ -1,43 +1,55 @@
 -- Laws of time sums: they are told where 64 bits hold them.
 -- Assumes nothing.
-use Prim.Native.Nat.{ℕ, ◌+◌, ◌-◌, ◌*◌, ◌/◌, ◌≤◌, ◌<◌}
-use native.Mathlib.Nat.{le-div_iff_mul-le, div-lt_iff_lt-mul}
+use Rattle.std.specs.Prelude.{Option, None, Some, Ok, Err}
+use Rattle.std.specs.Option.{SomeIff, ok_or}
+use Rattle.refusal.specs.declared.Refusal.{Refusal}
+use Rattle.refusal.specs.declared.Refusal.TheVariants.{ClockRange}
+use Prim.Native.Nat.{ℕ, ◌+◌, ◌^◌, ◌≤◌, ◌<◌}
 use native.Mathlib.Omega.{arith}
 use mathlib.Core.Path.{◌≡◌}
 use borrow.Author.Tests.{lt-ltb, le-ltb}
-use Rattle.outcome.specs.declared.Due.TheVariants.{At}
-use Rattle.transaction.specs.declared.Timing.TheVariants.{Told, OutOfRange}
 use Rattle.transaction.specs.Deadlines.{time_of}
 
 abbrev last : ℕ
 last = 0xFFFFFFFFFFFFFFFF
 
-told : (sum : ℕ) → sum ≤ last → Told (At sum) ≡ time_of sum
+told : (sum : ℕ) → sum ≤ last → Ok (Some sum) ≡ time_of sum
 unfolding time_of
 told sum h = rw (le-ltb last sum h)
 
-out : (sum : ℕ) → last < sum → OutOfRange ≡ time_of sum
+out : (sum : ℕ) → last < sum → (Err ClockRange) ≡ time_of sum
 unfolding time_of
 out sum h = rw (lt-ltb last sum h)
 
-module _ (time duration : ℕ) where
-  pub sum_told : time ≤ last → duration ≤ last - time → Told (At (time + duration)) ≡ time_of (time + duration)
-  sum_told t h = told (time + duration) (omega arith)
+-- what is summed with checks, and refused with `ClockRange`
+abbrev Checked : Option ℕ → ℕ → Type 0
+Checked o sum = SomeIff o (sum < 2 ^ 64) sum
 
-  pub sum_out : last - time < duration → OutOfRange ≡ time_of (time + duration)
-  sum_out h = out (time + duration) (omega arith)
+pub checked_told : (o : Option ℕ) (sum t : ℕ) → Checked o sum → ok_or o ClockRange ≡ Ok t → (t ≡ sum) × (sum ≤ last)
+checked_told None sum t h e = absurd (cc)
+checked_told (Some x) sum t h e = (cc, omega (arith, h.0))
 
-  module _ (n : ℕ) where
-    pub product_fits : duration ≤ (last - time) / (n + 1) → duration * (n + 1) ≤ last - time
-    product_fits h = (le-div_iff_mul-le {k = n + 1} {x = duration} {y = last - time} (omega arith)).0 h
+pub checked_out :
+    (o : Option ℕ) (sum : ℕ) (r : Refusal)
+    → Checked o sum
+    → ok_or o ClockRange ≡ Err r
+    → (r ≡ ClockRange) × (last < sum)
+checked_out None sum r h e = (cc, omega (arith, h))
+checked_out (Some x) sum r h e = absurd (cc)
 
-    pub product_told :
-        time ≤ last
-        → duration ≤ (last - time) / (n + 1)
-        → Told (At (time + duration * (n + 1))) ≡ time_of (time + duration * (n + 1))
-    product_told t h = told (time + duration * (n + 1)) (omega (arith, product_fits h))
+pub sum_told : (o : Option ℕ) (sum t : ℕ) → Checked o sum → ok_or o ClockRange ≡ Ok t → Ok (Some t) ≡ time_of sum
+sum_told o sum t h e = let k = checked_told o sum t h e in rw k.0 (told sum k.1)
 
-    pub product_out : (last - time) / (n + 1) < duration → OutOfRange ≡ time_of (time + duration * (n + 1))
-    product_out h =
-        let more = (div-lt_iff_lt-mul {k = n + 1} {x = last - time} {y = duration} (omega arith)).0 h in
-        out (time + duration * (n + 1)) (omega arith)
+pub sum_out : (o : Option ℕ) (sum : ℕ) (r : Refusal) → Checked o sum → ok_or o ClockRange ≡ Err r → Err r ≡ time_of sum
+sum_out o sum r h e = let k = checked_out o sum r h e in rw k.0 (out sum k.1)
+
+-- a product that is out of range puts the sum out of range
+pub product_out :
+    (o : Option ℕ) (time product : ℕ) (r : Refusal)
+    → Checked o product
+    → ok_or o ClockRange ≡ Err r
+    → Err r ≡ time_of (time + product)
+product_out o time product r h e =
+    let k = checked_out o product r h e in
+    let more : last < time + product = omega (arith, k.1) in
+    rw k.0 (out (time + product) more)

@@ -2,8 +2,8 @@
 -- Assumes nothing.
 use Prim.Native.Nat.{ℕ, zero, suc, ◌-◌, ◌≤◌, ◌<◌}
 use native.Mathlib.Omega.{arith}
-use mathlib.Core.Path.{◌≡◌, refl, sym, ap, ◌∙◌}
-use mathlib.Core.Bool.{true, false, false≢true}
+use mathlib.Core.Path.{◌≡◌, refl, ap, ◌∙◌}
+use mathlib.Core.Bool.{true, false≢true}
 use mathlib.Core.List.{List, [], ◌∷◌}
 use mathlib.Core.Option.{Option, none, some, map}
 use lib.ListN.{length, take, drop}
@@ -11,22 +11,24 @@ use Rattle.bus.specs.Operations.{Operation, write, read, kept}
 use Rattle.script.specs.declared.Step.{Step}
 use Rattle.script.specs.declared.Record.TheVariants.{Write, Read, Bad, End}
 use Rattle.script.specs.Records.{records_of, record_at}
-use Rattle.script.proofs.LawsWalk.{end_next, records_end, records_bad, records_write, records_read, write_next, read_next, walk_inside}
+use Rattle.script.proofs.LawsWalk.{records_end, records_bad, records_write, records_read, write_next, read_next, walk_inside}
+use Rattle.std.specs.Prelude as std
 use Rattle.transaction.specs.declared.walk.Kept.{Kept}
-use Rattle.transaction.specs.Walk.{is_some, Readable, or_none, kept_at, viewed, Behind}
+use Rattle.transaction.specs.declared.walk.Kind.TheVariants as kind
+use Rattle.transaction.specs.Walk.{is_readable, Readable, or_none, kept_at, viewed, Behind}
 
 -- one operation in front of others
 module _ (o : Operation) where
   some_more :
       (m : Option (List Operation))
-      → is_some (map (λ (os : List Operation). o ∷ os) m) ≡ true
-      → is_some m ≡ true
+      → is_readable (map (λ (os : List Operation). o ∷ os) m) ≡ true
+      → is_readable m ≡ true
   some_more none h = h
   some_more (some os) h = refl
 
   more :
       (m : Option (List Operation))
-      → is_some m ≡ true
+      → is_readable m ≡ true
       → or_none (map (λ (os : List Operation). o ∷ os) m) ≡ o ∷ or_none m
   more none h = absurd (false≢true h)
   more (some os) h = refl
@@ -80,58 +82,43 @@ module _ (s : List ℕ) (at : ℕ) (step : Step) (e : step ≡ record_at s at) (
 abbrev pub Stands : List ℕ → ℕ → ℕ → Type 0
 Stands s from at = (from ≤ at) × (at ≤ length s) × Readable (drop at s) × (kept_at s from ≡ kept_at s at)
 
-abbrev pub Answered : List ℕ → ℕ → Kept → Type 0
-Answered s from r = (kept_at s from ≡ viewed s r) × Readable (drop r.next s) × Behind from (length s) r
+abbrev pub Answered : List ℕ → ℕ → std.Option Kept → Type 0
+Answered s from r = (kept_at s from ≡ viewed s r) × std.IfSome r (λ k. Behind from s k)
 
 -- what the record that it finds there means
 pub record Seen (s : List ℕ) (from at : ℕ) (step : Step) : Type 0 where
-  pub ends :
-      step.found ≡ End
-      → (r : Kept)
-      → r ≡ record { there = false; reads = false; length = 0; next = step.next }
-      → Answered s from r
+  pub ends : step.found ≡ End → Answered s from std.None
   pub never_bad : step.found ≡ Bad → ⊥
   pub is_write :
       (n : ℕ)
       → n ≤ 65535
       → step.found ≡ Write n
-      → Answered s from (record { there = true; reads = false; length = n; next = step.next })
+      → Answered s from (std.Some (record { kind = kind.Write; length = n; next = step.next }))
   pub is_read :
       (n : ℕ)
       → n ≤ 65535
       → step.found ≡ Read n
       → 1 ≤ n
-      → Answered s from (record { there = true; reads = true; length = n; next = step.next })
+      → Answered s from (std.Some (record { kind = kind.Read; length = n; next = step.next }))
   pub passes : (n : ℕ) → step.found ≡ Read n → n ≤ 0 → (at < step.next) × Stands s from step.next
 
 module _ (s : List ℕ) (from at : ℕ) (st : Stands s from at) (step : Step) (e : step ≡ record_at s at) where
-  at_end :
-      step.found ≡ End
-      → (r : Kept)
-      → r ≡ record { there = false; reads = false; length = 0; next = step.next }
-      → Answered s from r
-  at_end f r q =
-      let stays = end_next s at step e f in
-      rw (q, stays) (
-        st.3 ∙ kept_end s at step e st.2 f,
-        st.2,
-        (st.0, st.1, (λ t. absurd (false≢true t)), (omega arith, (λ t. omega arith), (λ t. absurd (false≢true t)))),
-      )
+  at_end : step.found ≡ End → Answered s from std.None
+  at_end f = (st.3 ∙ kept_end s at step e st.2 f, tt)
 
   at_write :
       (n : ℕ)
       → n ≤ 65535
       → step.found ≡ Write n
-      → Answered s from (record { there = true; reads = false; length = n; next = step.next })
+      → Answered s from (std.Some (record { kind = kind.Write; length = n; next = step.next }))
   at_write n small f =
       let next = write_next s at step e n f in (
         st.3 ∙ kept_write s at step e st.2 n f,
-        readable_write s at step e st.2 n f,
         (
           omega (arith, next, st.0),
           walk_inside s at step e st.1,
-          (λ t. omega (arith, next, st.0)),
-          (small, (λ t. omega (arith, next)), (λ t. absurd (false≢true t))),
+          (small, (λ t. omega (arith, next)), (λ t. absurd (cc))),
+          readable_write s at step e st.2 n f,
         ),
       )
 
@@ -140,16 +127,15 @@ module _ (s : List ℕ) (from at : ℕ) (st : Stands s from at) (step : Step) (e
       → n ≤ 65535
       → step.found ≡ Read n
       → 1 ≤ n
-      → Answered s from (record { there = true; reads = true; length = n; next = step.next })
+      → Answered s from (std.Some (record { kind = kind.Read; length = n; next = step.next }))
   at_read n small f enough =
       let next = read_next s at step e n f in (
         st.3 ∙ kept_read s at step e st.2 n f enough,
-        readable_read s at step e st.2 n f,
         (
           omega (arith, next, st.0),
           walk_inside s at step e st.1,
-          (λ t. omega (arith, next, st.0)),
-          (small, (λ t. absurd (false≢true (sym t))), (λ t. enough)),
+          (small, (λ t. absurd (cc)), (λ t. enough)),
+          readable_read s at step e st.2 n f,
         ),
       )
 

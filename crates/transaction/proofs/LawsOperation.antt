@@ -4,6 +4,7 @@ use Prim.Native.Nat.{ℕ, zero, suc, ◌+◌, ◌-◌, ◌≤◌, ◌<◌}
 use native.Mathlib.Nat.{zero-add, suc-add, div-le_self}
 use native.Mathlib.Numerals.{add-one}
 use native.Mathlib.Omega.{arith}
+use mir.Val.{bool_byte}
 use mathlib.Core.Path.{◌≡◌, refl, sym, ap, ◌∙◌}
 use mathlib.Core.Bool.{Bool, true, false, cond, not, ◌&&◌, ◌||◌}
 use mathlib.Core.List.{List, [], ◌∷◌}
@@ -17,9 +18,11 @@ use Rattle.chunks.proofs.Pieces.{pieces_sum, pieces_count, pieces_start, pieces_
 use Rattle.turns.specs.Steps.{Step, write_step, read_step, write_steps}
 use Rattle.turns.specs.Turns.{with_list, turn, turn_at}
 use Rattle.turns.proofs.LawsTurns.{write_turn, read_turn_lem, pieces_some, write_listed, read_listed, write_count, read_count}
+use Rattle.transaction.specs.declared.walk.Kind.{Kind}
+use Rattle.transaction.specs.declared.walk.Kind.TheVariants as kind
 use Rattle.transaction.specs.declared.walk.Kept.{Kept}
 use Rattle.transaction.specs.declared.walk.Flags.{Flags}
-use Rattle.transaction.specs.Walk.{Sound, operation_at, piece_flags, steps_for, Sized}
+use Rattle.transaction.specs.Walk.{Sound, operation_of, operation_at, piece_flags, steps_for, Sized}
 
 four : 4 ≤ 31
 four = omega arith
@@ -61,6 +64,12 @@ pub one_most : 1 ≤ count_of 31 0
 unfolding count_of
 one_most = omega arith
 
+pub stops_most : (flags : Flags) → bool_byte flags.stop ≤ count_of 31 0
+stops_most flags = go flags.stop where
+  go : (t : Bool) → bool_byte t ≤ count_of 31 0
+  go true = one_most
+  go false = omega arith
+
 -- as many as a record's 16 bits can say, at most
 pub count_most : (n : ℕ) → n ≤ 65535 → count_of 31 n ≤ 65536
 unfolding count_of
@@ -91,6 +100,12 @@ module _ (o : Operation) (flags : Flags) (z : Sized o 0) where
 
   pub no_lists : flags.start ≡ false → flags.stop ≡ false → 0 ≡ length (with_list (steps_for o flags))
   no_lists a b = sym (empty_lists false false a b)
+
+  pub stopping_lists : flags.start ≡ false → bool_byte flags.stop ≡ length (with_list (steps_for o flags))
+  stopping_lists a = go flags.stop refl where
+    go : (t : Bool) → flags.stop ≡ t → bool_byte t ≡ length (with_list (steps_for o flags))
+    go true b = stopping_list a b
+    go false b = no_lists a b
 
 -- and one that is not empty
 pub lists_of_pieces :
@@ -179,13 +194,13 @@ part_of_part b n a m l h =
 
 -- an operation that was found is as long as it says
 pub sized : (s : List ℕ) (k : Kept) → Sound k → k.next ≤ length s → Sized (operation_at s k) k.length
-sized s k sound inside = go k.reads refl where
+sized s k sound inside = go k.kind refl where
   go :
-      (r : Bool)
-      → k.reads ≡ r
-      → Sized (cond r (read k.length) (write (take k.length (drop (k.next - k.length) s)))) k.length
-  go true e = (refl, sound.2 e)
-  go false e =
+      (d : Kind)
+      → k.kind ≡ d
+      → Sized (operation_of d k.length (take k.length (drop (k.next - k.length) s))) k.length
+  go kind.Read e = (refl, sound.2 e)
+  go kind.Write e =
       let there : k.length ≤ length (drop (k.next - k.length) s) =
       rw (length-drop (k.next - k.length) s) (omega (arith, sound.1 e)) in
       sym (length-take-le k.length (drop (k.next - k.length) s) there)
@@ -197,13 +212,13 @@ pub record Cut (ahead : Kept) (flags : Flags) (at landing start size : ℕ) (own
   pub fits : size ≤ 31
   pub is_read :
       (s : List ℕ)
-      → ahead.reads ≡ true
+      → ahead.kind ≡ kind.Read
       → at < count_of 31 ahead.length
       → turn (read_step size own.start own.stop own.continues) (landing + start)
       ≡ turn_at landing at (with_list (steps_for (operation_at s ahead) flags))
   pub is_write :
       (s : List ℕ)
-      → ahead.reads ≡ false
+      → ahead.kind ≡ kind.Write
       → ahead.next ≤ length s
       → at < length (with_list (steps_for (operation_at s ahead) flags))
       → turn (write_step (take size (drop (ahead.next - ahead.length + start) s)) own.start own.stop) landing
@@ -232,14 +247,14 @@ module _
       steps = with_list (steps_for (operation_at s ahead) flags)
 
       read_found :
-          ahead.reads ≡ true
+          ahead.kind ≡ kind.Read
           → at < count_of 31 n
           → turn (read_step size own.start own.stop own.continues) (landing + start) ≡ turn_at landing at steps
       read_found r h =
           rw (e-own, e-all, e-size, e-start, r, add-one at) (sym (read_piece landing flags n at (sound.2 r) h))
 
       write_found :
-          ahead.reads ≡ false
+          ahead.kind ≡ kind.Write
           → ahead.next ≤ length s
           → at < length steps
           → turn (write_step (take size (drop (ahead.next - n + start) s)) own.start own.stop) landing

@@ -1,5 +1,6 @@
 -- Laws of the calls that take a script: what they do once it is accepted, and where it is refused.
 -- Assumes nothing.
+use Rattle.std.specs.Prelude.{Ok, Err}
 use Prim.Native.Nat.{ℕ, ◌≤◌, ◌<◌}
 use native.Mathlib.Omega.{arith}
 use mathlib.Core.Path.{◌≡◌, refl}
@@ -11,16 +12,12 @@ use Rattle.bus.specs.Operations.{Operation}
 use Rattle.refusal.specs.declared.Refusal.{Refusal}
 use Rattle.refusal.specs.declared.Refusal.TheVariants.{Room}
 use Rattle.outcome.specs.declared.Snapshot.{Snapshot}
-use Rattle.script.specs.declared.Verdict.TheVariants as verdict
 use Rattle.script.specs.Records.{records_of}
 use Rattle.script.specs.Scripts.{asks, refused, read_total, script_of, told_of}
 use Rattle.script.proofs.LawsAccepted.{operations_of, refused_by, accepted_asks, accepted_total, accepted_facts}
 use Rattle.turns.specs.Turns.{turns_of, turn_at}
 use Rattle.transaction.specs.declared.Settings.{Settings}
 use Rattle.transaction.specs.declared.Progress.{Progress}
-use Rattle.transaction.specs.declared.Beginning.TheVariants as beginning
-use Rattle.transaction.specs.declared.Handing.TheVariants as handing
-use Rattle.transaction.specs.declared.Completion.TheVariants as completion
 use Rattle.transaction.specs.declared.Completed.{Completed}
 use Rattle.transaction.specs.Deadlines.{fixed_of}
 use Rattle.transaction.specs.Walk.{or_none, Walkable, turn_in}
@@ -28,30 +25,30 @@ use Rattle.transaction.specs.Calls.{accepted_by, begin_of, without_list, turn_ha
 
 module _ (address : ℕ) (s : List ℕ) where
   -- a script that is refused
-  module _ (r : Refusal) (e : verdict.Refused r ≡ told_of (script_of address s)) where
+  module _ (r : Refusal) (e : Err r ≡ told_of (script_of address s)) where
     is_refused : script_of address s ≡ refused r
     is_refused = refused_by (script_of address s) r e
 
     pub begin_refused :
         (before : Progress) (settings : Settings) (room : ℕ) (busy : Bool) (time : ℕ)
-        → record { answer = beginning.Refused r; progress = before } ≡ begin_of before settings address s room busy time
+        → record { answer = Err r; progress = before } ≡ begin_of before settings address s room busy time
     unfolding begin_of
     begin_refused before settings room busy time = rw is_refused
 
     pub next_refused :
-        (p : Progress) (settings : Settings) (time : ℕ) → without_list (handing.Refused r) p ≡ next_of p settings address s time
+        (p : Progress) (settings : Settings) (time : ℕ) → without_list (Err r) p ≡ next_of p settings address s time
     unfolding next_of
     next_refused p settings time = rw is_refused
 
     pub complete_refused :
         (p : Progress) (snapshot : Snapshot) (received buffer : List ℕ) (c : Completed)
-        → c ≡ keeping (completion.Refused r) p
+        → c ≡ keeping (Err r) p
         → (c ≡ complete_of p address s snapshot received buffer) × (buffer ≡ buffer_of p address s snapshot received buffer)
     unfolding complete_of buffer_of
     complete_refused p snapshot received buffer c q = rw (q, is_refused) (refl, refl)
 
   -- and one that is accepted
-  module _ (total : ℕ) (e : verdict.Accepted total ≡ told_of (script_of address s)) where
+  module _ (total : ℕ) (e : Ok total ≡ told_of (script_of address s)) where
     os : List Operation
     os = operations_of (script_of address s)
 
@@ -80,7 +77,7 @@ module _ (address : ℕ) (s : List ℕ) where
 
     module _ (before : Progress) (settings : Settings) (room : ℕ) (busy : Bool) (time : ℕ) where
       pub begin_room :
-          room < total → record { answer = beginning.Refused Room; progress = before } ≡ begin_of before settings address s room busy time
+          room < total → record { answer = Err Room; progress = before } ≡ begin_of before settings address s room busy time
       unfolding begin_of
       begin_room h = rw (asked, lt-ltb room (read_total os) (omega (arith, sums)))
 

@@ -1,10 +1,11 @@
 -- Laws of the calls at the turn that a walk has found.
 -- Assumes nothing.
+use Rattle.std.specs.Prelude.{Ok, Err}
 use Prim.Native.Nat.{ℕ, zero, suc, ◌+◌, ◌≤◌, ◌<◌}
 use native.Mathlib.Nat.{zero-add}
 use native.Mathlib.Omega.{arith}
 use mathlib.Core.Path.{◌≡◌, refl, sym, ap, ◌∙◌}
-use mathlib.Core.Bool.{true, false, cond, not, false≢true}
+use mathlib.Core.Bool.{true, false, not, false≢true}
 use mathlib.Core.List.{List, [], ◌∷◌}
 use lib.ListN.{length, take, drop, length-drop}
 use lib.Seq.{paste, length-take-le}
@@ -13,7 +14,6 @@ use Rattle.bus.specs.Events.{to_sensor, from_sensor}
 use Rattle.bus.specs.Operations.{Operation, write, read, kept}
 use Rattle.chunks.specs.Pieces.{pieces}
 use Rattle.chunks.proofs.Pieces.{pieces_sum}
-use Rattle.refusal.specs.declared.Refusal.{Refusal}
 use Rattle.refusal.specs.declared.Refusal.TheVariants.{Shape, Room, OutOfTurn}
 use Rattle.outcome.specs.declared.Snapshot.{Snapshot}
 use Rattle.outcome.specs.Outcomes.{classify_of, received_of}
@@ -29,10 +29,9 @@ use Rattle.transaction.specs.declared.Completed.{Completed}
 use Rattle.transaction.specs.declared.Settings.{Settings}
 use Rattle.transaction.specs.declared.Handed.{Handed}
 use Rattle.transaction.specs.declared.Handing.TheVariants as handing
-use Rattle.transaction.specs.declared.Completion.TheVariants as completion
 use Rattle.transaction.specs.Deadlines.{due_of}
 use Rattle.transaction.specs.Walk.{or_none, turn_of, is_turn, Inside, size_of, list_for, takes, lands_at, misplaced, turn_in}
-use Rattle.transaction.specs.Calls.{without_list, handed_by, out_of_turn, turn_handed, keeping, told_by, turn_completed, succeeded, laid}
+use Rattle.transaction.specs.Calls.{without_list, handed_by, out_of_turn, turn_handed, keeping, told_by, turn_completed, laid}
 
 -- all that is received is what the operations read
 pub received_all : (b : Before) (os : List Operation) → all_received (steps_from 31 b (kept os)) ≡ read_total os
@@ -73,13 +72,6 @@ module _ (s : List ℕ) (place : ℕ) where
   lands_inside Over e = omega arith
   lands_inside Beyond e = omega arith
 
--- a piece fits a chunk
-pub size_most : (end : ℕ) (found : Found) → Inside end found → size_of found ≤ 31
-size_most end (Write from n start stop landing) i = i.1
-size_most end (Read n start stop continues landing) i = i
-size_most end Over i = omega arith
-size_most end Beyond i = omega arith
-
 -- out of turn: a list is outstanding, or the transaction has failed
 module _ (p : Progress) where
   pub outstanding_out : p.outstanding ≡ true → out_of_turn p ≡ true
@@ -94,7 +86,7 @@ module _ (s : List ℕ) (p : Progress) (settings : Settings) (address time : ℕ
   handed found = turn_handed (turn_of s found) p settings address time
 
   pub handed_misplaced :
-      (found : Found) → misplaced found p.outstanding ≡ true → without_list (handing.Refused Shape) p ≡ handed found
+      (found : Found) → misplaced found p.outstanding ≡ true → without_list (Err Shape) p ≡ handed found
   handed_misplaced (Write from n start stop landing) h = absurd (false≢true h)
   handed_misplaced (Read n start stop continues landing) h = absurd (false≢true h)
   handed_misplaced Over h = rw h
@@ -104,7 +96,7 @@ module _ (s : List ℕ) (p : Progress) (settings : Settings) (address time : ℕ
       (found : Found)
       → misplaced found p.outstanding ≡ false
       → out_of_turn p ≡ true
-      → without_list (handing.Refused OutOfTurn) p ≡ handed found
+      → without_list (Err OutOfTurn) p ≡ handed found
   handed_out_of_turn (Write from n start stop landing) h o = rw o
   handed_out_of_turn (Read n start stop continues landing) h o = rw o
   handed_out_of_turn Over h o = rw (o, h)
@@ -115,7 +107,7 @@ module _ (s : List ℕ) (p : Progress) (settings : Settings) (address time : ℕ
         (found : Found)
         → misplaced found p.outstanding ≡ false
         → not (is_turn found) ≡ true
-        → without_list handing.NoneLeft p ≡ handed found
+        → without_list (Ok handing.NoneLeft) p ≡ handed found
     handed_none (Write from n start stop landing) h o = absurd (false≢true o)
     handed_none (Read n start stop continues landing) h o = absurd (false≢true o)
     handed_none Over h o = rw (waits, fails)
@@ -139,7 +131,7 @@ module _ (s : List ℕ) (total : ℕ) (p : Progress) (snapshot : Snapshot) (got 
   told found = turn_completed (turn_of s found) total p snapshot got room
 
   pub told_misplaced :
-      (found : Found) → misplaced found p.outstanding ≡ true → told found ≡ keeping (completion.Refused Shape) p
+      (found : Found) → misplaced found p.outstanding ≡ true → told found ≡ keeping (Err Shape) p
   told_misplaced (Write from n start stop landing) h = absurd (false≢true h)
   told_misplaced (Read n start stop continues landing) h = absurd (false≢true h)
   told_misplaced Over h = rw h
@@ -149,7 +141,7 @@ module _ (s : List ℕ) (total : ℕ) (p : Progress) (snapshot : Snapshot) (got 
       (found : Found)
       → misplaced found p.outstanding ≡ false
       → p.outstanding ≡ false
-      → told found ≡ keeping (completion.Refused OutOfTurn) p
+      → told found ≡ keeping (Err OutOfTurn) p
   told_out_of_turn (Write from n start stop landing) h o = rw o
   told_out_of_turn (Read n start stop continues landing) h o = rw o
   told_out_of_turn Over h o = rw o
@@ -160,7 +152,7 @@ module _ (s : List ℕ) (total : ℕ) (p : Progress) (snapshot : Snapshot) (got 
         (found : Found)
         → misplaced found p.outstanding ≡ false
         → room < total
-        → told found ≡ keeping (completion.Refused Room) p
+        → told found ≡ keeping (Err Room) p
     told_no_room (Write from n start stop landing) h r = rw (o, lt-ltb room total r)
     told_no_room (Read n start stop continues landing) h r = rw (o, lt-ltb room total r)
     told_no_room Over h r = absurd (false≢true (sym h ∙ o))
@@ -190,11 +182,3 @@ module _ (s : List ℕ) (total : ℕ) (p : Progress) (snapshot : Snapshot) (got 
     told_turn (Read n start stop continues landing) h = refl
     told_turn Over h = absurd (false≢true (sym h ∙ o))
     told_turn Beyond h = absurd (false≢true (sym h))
-
--- a refusal keeps the read buffer
-pub refused_keeps :
-    (refusal : Refusal) (p : Progress) (r told : Completed) (laid buffer : List ℕ)
-    → r ≡ keeping (completion.Refused refusal) p
-    → told ≡ keeping (completion.Refused refusal) p
-    → (r ≡ told) × (buffer ≡ cond (succeeded r.answer) laid buffer)
-refused_keeps refusal p r told laid buffer e q = rw (e, q) (refl, refl)

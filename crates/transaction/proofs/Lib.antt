@@ -6,6 +6,5 @@ pub mod LawsStanding
 pub mod LawsDeadlines
 pub mod LawsCompletion
 pub mod LawsScript
-pub mod LawsAbandoning
 pub mod LawsTurn
 pub mod FewLists

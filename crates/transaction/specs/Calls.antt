@@ -1,9 +1,8 @@
 -- The four calls of a transaction, after 01, "Numbers of refusals", "Scripts and transactions" and "Outcomes".
-use Rattle.std.specs.Prelude.{ℕ, ◌+◌, Bool, true, false, cond, not, ◌&&◌, ◌||◌, List, length, ltb}
+use Rattle.refusal.specs.declared.Refusal.{Refusal}
+use Rattle.std.specs.Prelude.{ℕ, ◌+◌, Bool, true, false, cond, not, ◌&&◌, ◌||◌, List, length, ltb, Option, Some, None, Result, Ok, Err}
 use Rattle.std.proofs.Math.Seq.{paste}
-use Rattle.refusal.specs.declared.Refusal.TheVariants.{Shape, Room, OutOfTurn, ClockRange}
-use Rattle.outcome.specs.declared.Due.{Due}
-use Rattle.outcome.specs.declared.Due.TheVariants.{Never}
+use Rattle.refusal.specs.declared.Refusal.TheVariants.{Shape, Room, OutOfTurn}
 use Rattle.outcome.specs.declared.Error.TheVariants.{ExecutionIncomplete, AcknowledgeCheckFailed, ArbitrationLost, Timeout}
 use Rattle.outcome.specs.declared.Outcome.{Outcome}
 use Rattle.outcome.specs.declared.Outcome.TheVariants.{Pending, Done, Failed}
@@ -23,22 +22,18 @@ use Rattle.transaction.specs.declared.Begun.{Begun}
 use Rattle.transaction.specs.declared.Handing.{Handing}
 use Rattle.transaction.specs.declared.Handing.TheVariants as handing
 use Rattle.transaction.specs.declared.Handed.{Handed}
-use Rattle.transaction.specs.declared.Completion.{Completion}
-use Rattle.transaction.specs.declared.Completion.TheVariants as completion
 use Rattle.transaction.specs.declared.Completed.{Completed}
 use Rattle.transaction.specs.declared.Abandonment.TheVariants as abandonment
 use Rattle.transaction.specs.declared.Abandoned.{Abandoned}
-use Rattle.transaction.specs.declared.Timing.{Timing}
-use Rattle.transaction.specs.declared.Timing.TheVariants.{Told, OutOfRange}
 use Rattle.transaction.specs.Deadlines.{fixed_of, due_of}
 
 -- THE RECORD
 -- as acceptance leaves it
-abbrev pub accepted : Due → Progress
-accepted fixed = record { place = 0; outstanding = false; due = Never; polled = false; failed = false; fixed = fixed }
+abbrev pub accepted : Option ℕ → Progress
+accepted fixed = record { place = 0; outstanding = false; due = None; polled = false; failed = false; fixed = fixed }
 
 -- a list is handed out
-abbrev pub awaiting : Progress → Due → Progress
+abbrev pub awaiting : Progress → Option ℕ → Progress
 awaiting p due =
     record { place = p.place; outstanding = true; due = due; polled = false; failed = p.failed; fixed = p.fixed }
 
@@ -50,24 +45,24 @@ waiting p polled =
 -- the outstanding list is completed
 abbrev pub completed : Progress → Progress
 completed p =
-    record { place = p.place + 1; outstanding = false; due = Never; polled = false; failed = p.failed; fixed = p.fixed }
+    record { place = p.place + 1; outstanding = false; due = None; polled = false; failed = p.failed; fixed = p.fixed }
 
 -- "8 to 11 end the transaction"; "Abandoning is a failure"
 abbrev pub failing : Progress → Progress
-failing p = record { place = p.place; outstanding = false; due = Never; polled = false; failed = true; fixed = p.fixed }
+failing p = record { place = p.place; outstanding = false; due = None; polled = false; failed = true; fixed = p.fixed }
 
 -- BEGIN
 -- "A bus reported busy asks for a bus clear, without reset, first."
-abbrev pub accepted_by : Timing → Bool → Progress → Begun
-accepted_by OutOfRange busy before = record { answer = beginning.Refused ClockRange; progress = before }
-accepted_by (Told fixed) busy before =
-    record { answer = cond busy beginning.ClearFirst beginning.Ready; progress = accepted fixed }
+abbrev pub accepted_by : Result (Option ℕ) Refusal → Bool → Progress → Begun
+accepted_by (Err r) busy before = record { answer = Err r; progress = before }
+accepted_by (Ok fixed) busy before =
+    record { answer = cond busy (Ok beginning.ClearFirst) (Ok beginning.Ready); progress = accepted fixed }
 
 -- "Script order: ..; 7. Then 13 for a fixed deadline, even if no operation is kept."
 abbrev pub begun_by : Script → Progress → Settings → ℕ → Bool → ℕ → Begun
-begun_by (refused r) before settings room busy time = record { answer = beginning.Refused r; progress = before }
+begun_by (refused r) before settings room busy time = record { answer = Err r; progress = before }
 begun_by (asks os) before settings room busy time =
-    cond (ltb room (read_total os)) (record { answer = beginning.Refused Room; progress = before })
+    cond (ltb room (read_total os)) (record { answer = Err Room; progress = before })
     (accepted_by (fixed_of settings.deadline time) busy before)
 
 unfoldable pub begin_of : Progress → Settings → ℕ → List ℕ → ℕ → Bool → ℕ → Begun
@@ -75,15 +70,21 @@ begin_of before settings address script room busy time = begun_by (script_of add
 
 -- NEXT LIST
 abbrev pub no_list : CommandList
-no_list = (unlisted NoList).list
+no_list = (unlisted (Ok NoList)).list
 
-abbrev pub without_list : Handing → Progress → Handed
+abbrev pub without_list : Result Handing Refusal → Progress → Handed
 without_list answer p = record { answer = answer; list = no_list; progress = p }
 
+-- a list that is handed out, or none is left, or a refusal, and the record after it
+abbrev pub handed_as : Result (Option CommandList) Refusal → Progress → Handed
+handed_as (Ok (Some l)) p = record { answer = Ok handing.Listed; list = l; progress = p }
+handed_as (Ok None) p = without_list (Ok handing.NoneLeft) p
+handed_as (Err r) p = without_list (Err r) p
+
 -- "13 for a per-byte deadline where there is a list"
-abbrev pub handed_by : Timing → CommandList → Progress → Handed
-handed_by OutOfRange l p = without_list (handing.Refused ClockRange) p
-handed_by (Told due) l p = record { answer = handing.Listed; list = l; progress = awaiting p due }
+abbrev pub handed_by : Result (Option ℕ) Refusal → CommandList → Progress → Handed
+handed_by (Err r) l p = without_list (Err r) p
+handed_by (Ok due) l p = record { answer = Ok handing.Listed; list = l; progress = awaiting p due }
 
 abbrev pub out_of_turn : Progress → Bool
 out_of_turn p = p.outstanding || p.failed
@@ -91,37 +92,37 @@ out_of_turn p = p.outstanding || p.failed
 -- "Next list: 5 (place), 12, 13 for a per-byte deadline where there is a list ..; after the last list, none left." A record with a list
 -- outstanding has a place at which there is a list
 abbrev pub turn_handed : Turn → Progress → Settings → ℕ → ℕ → Handed
-turn_handed beyond p settings address time = without_list (handing.Refused Shape) p
+turn_handed beyond p settings address time = without_list (Err Shape) p
 turn_handed over p settings address time =
-    cond p.outstanding (without_list (handing.Refused Shape) p)
-    (cond (out_of_turn p) (without_list (handing.Refused OutOfTurn) p)
-    (without_list handing.NoneLeft p))
+    cond p.outstanding (without_list (Err Shape) p)
+    (cond (out_of_turn p) (without_list (Err OutOfTurn) p)
+    (without_list (Ok handing.NoneLeft) p))
 turn_handed (turn s landing) p settings address time =
-    cond (out_of_turn p) (without_list (handing.Refused OutOfTurn) p)
+    cond (out_of_turn p) (without_list (Err OutOfTurn) p)
     (handed_by (due_of settings.deadline p.fixed (carries s) time) (built_of 32 address s).list p)
 
 -- "Later calls take script and address again and first repeat 1, 4, 5 and 6."
 abbrev pub next_by : Script → Progress → Settings → ℕ → ℕ → Handed
-next_by (refused r) p settings address time = without_list (handing.Refused r) p
+next_by (refused r) p settings address time = without_list (Err r) p
 next_by (asks os) p settings address time = turn_handed (turn_at 0 p.place (turns_of 31 os)) p settings address time
 
 unfoldable pub next_of : Progress → Settings → ℕ → List ℕ → ℕ → Handed
 next_of p settings address script time = next_by (script_of address script) p settings address time
 
 -- COMPLETION
-abbrev pub keeping : Completion → Progress → Completed
+abbrev pub keeping : Result Outcome Refusal → Progress → Completed
 keeping answer p = record { answer = answer; progress = p }
 
 -- "For a read of n, fewer than n received bytes handed in give 8; of more, the first n are taken"
 abbrev pub landed_by : Outcome → Progress → Completed
-landed_by Pending p = keeping (completion.Told Pending) p
-landed_by Done p = keeping (completion.Told Done) (completed p)
-landed_by (Failed e) p = keeping (completion.Told (Failed e)) (failing p)
+landed_by Pending p = keeping (Ok Pending) p
+landed_by Done p = keeping (Ok Done) (completed p)
+landed_by (Failed e) p = keeping (Ok (Failed e)) (failing p)
 
 -- "Once a poll has succeeded, later snapshots for the list start at this check."
 abbrev pub told_as : Outcome → Bool → Outcome → Progress → Completed
-told_as Pending polled arrived p = keeping (completion.Told Pending) (waiting p polled)
-told_as (Failed e) polled arrived p = keeping (completion.Told (Failed e)) (failing p)
+told_as Pending polled arrived p = keeping (Ok Pending) (waiting p polled)
+told_as (Failed e) polled arrived p = keeping (Ok (Failed e)) (failing p)
 told_as Done polled arrived p = landed_by arrived p
 
 abbrev pub told_by : Classified → Outcome → Progress → Completed
@@ -129,16 +130,16 @@ told_by told arrived p = told_as told.outcome told.polled arrived p
 
 -- "Completion: 5, 12, 7, then outcomes."
 abbrev pub turn_completed : Turn → ℕ → Progress → Snapshot → ℕ → ℕ → Completed
-turn_completed beyond total p s received room = keeping (completion.Refused Shape) p
+turn_completed beyond total p s received room = keeping (Err Shape) p
 turn_completed over total p s received room =
-    cond p.outstanding (keeping (completion.Refused Shape) p) (keeping (completion.Refused OutOfTurn) p)
+    cond p.outstanding (keeping (Err Shape) p) (keeping (Err OutOfTurn) p)
 turn_completed (turn t landing) total p s received room =
-    cond (not p.outstanding) (keeping (completion.Refused OutOfTurn) p)
-    (cond (ltb room total) (keeping (completion.Refused Room) p)
+    cond (not p.outstanding) (keeping (Err OutOfTurn) p)
+    (cond (ltb room total) (keeping (Err Room) p)
     (told_by (classify_of s p.polled p.due) (received_of (receives t) received) p))
 
 abbrev pub complete_by : Script → Progress → Snapshot → ℕ → ℕ → Completed
-complete_by (refused r) p s received room = keeping (completion.Refused r) p
+complete_by (refused r) p s received room = keeping (Err r) p
 complete_by (asks os) p s received room = turn_completed (turn_at 0 p.place (turns_of 31 os)) (read_total os) p s received room
 
 unfoldable pub complete_of : Progress → ℕ → List ℕ → Snapshot → List ℕ → List ℕ → Completed
@@ -154,11 +155,11 @@ abbrev pub laid_by : Script → ℕ → List ℕ → List ℕ → List ℕ
 laid_by (refused r) place received buffer = buffer
 laid_by (asks os) place received buffer = laid (turn_at 0 place (turns_of 31 os)) received buffer
 
-abbrev pub succeeded : Completion → Bool
-succeeded (completion.Told Done) = true
-succeeded (completion.Told Pending) = false
-succeeded (completion.Told (Failed e)) = false
-succeeded (completion.Refused r) = false
+abbrev pub succeeded : Result Outcome Refusal → Bool
+succeeded (Ok Done) = true
+succeeded (Ok Pending) = false
+succeeded (Ok (Failed e)) = false
+succeeded (Err r) = false
 
 unfoldable pub buffer_of : Progress → ℕ → List ℕ → Snapshot → List ℕ → List ℕ → List ℕ
 buffer_of p address script s received buffer =
@@ -179,8 +180,8 @@ resets (Failed Timeout) = true
 -- "Abandoning takes neither: 12 only."
 unfoldable pub abandon_of : Progress → Snapshot → Abandoned
 abandon_of p s =
-    cond (not p.outstanding) (record { answer = abandonment.Refused OutOfTurn; progress = p })
+    cond (not p.outstanding) (record { answer = Err OutOfTurn; progress = p })
     (record {
-      answer = cond (not p.polled && resets (poll_of s p.due)) abandonment.ResetAndClear abandonment.Quiet;
+      answer = cond (not p.polled && resets (poll_of s p.due)) (Ok abandonment.ResetAndClear) (Ok abandonment.Quiet);
       progress = failing p;
     })

@@ -1,6 +1,6 @@
 -- How a walk over a script's records finds its place: what the private functions of `walk` say to each other.
-use Rattle.std.specs.Prelude.{ℕ, ◌+◌, ◌-◌, ◌≤◌, ◌<◌, ◌≡◌, Bool, true, false, cond, not, ◌&&◌, ◌||◌, List, [], ◌∷◌, length, take, drop}
-use Rattle.std.proofs.Math.Option.{Option, none, some}
+use Rattle.std.specs.Prelude.{ℕ, ◌+◌, ◌-◌, ◌≤◌, ◌<◌, ◌≡◌, Bool, true, false, not, ◌&&◌, ◌||◌, List, [], ◌∷◌, length, take, drop, Option, None, Some, is_none, Ok}
+use Rattle.std.proofs.Math.Option as maybe
 use Rattle.bus.specs.Events.{Direction, to_sensor, from_sensor}
 use Rattle.bus.specs.Operations.{Operation, write, read, kept}
 use Rattle.chunks.specs.Pieces.{pieces}
@@ -10,54 +10,75 @@ use Rattle.list.specs.declared.CommandList.{CommandList}
 use Rattle.list.specs.Lists.{unlisted, write_step_of, read_step_of}
 use Rattle.turns.specs.Steps.{Step, write_step, read_step, Before, nothing, after, starts, write_steps, read_steps, steps_from}
 use Rattle.turns.specs.Turns.{Turn, turn, over, beyond, with_list, turn_at}
+use Rattle.transaction.specs.declared.walk.Kind.{Kind}
+use Rattle.transaction.specs.declared.walk.Kind.TheVariants as kind
 use Rattle.transaction.specs.declared.walk.Kept.{Kept}
 use Rattle.transaction.specs.declared.walk.Flags.{Flags}
 use Rattle.transaction.specs.declared.walk.Found.{Found}
 use Rattle.transaction.specs.declared.walk.Found.TheVariants.{Write, Read, Over, Beyond}
 
-abbrev pub direction_of : Bool → Direction
-direction_of reads = cond reads from_sensor to_sensor
+abbrev pub direction_of : Kind → Direction
+direction_of kind.Write = to_sensor
+direction_of kind.Read = from_sensor
 
-abbrev pub before_of : Kept → Before
-before_of k = cond k.there (after (direction_of k.reads)) nothing
+abbrev pub before_of : Option Kind → Before
+before_of None = nothing
+before_of (Some k) = after (direction_of k)
 
 -- no record is bad
-abbrev pub is_some : Option (List Operation) → Bool
-is_some none = false
-is_some (some os) = true
+abbrev pub is_readable : maybe.Option (List Operation) → Bool
+is_readable maybe.none = false
+is_readable (maybe.some os) = true
 
 abbrev pub Readable : List ℕ → Type 0
-Readable bytes = is_some (records_of bytes) ≡ true
+Readable bytes = is_readable (records_of bytes) ≡ true
 
-abbrev pub or_none : Option (List Operation) → List Operation
-or_none none = []
-or_none (some os) = os
+abbrev pub or_none : maybe.Option (List Operation) → List Operation
+or_none maybe.none = []
+or_none (maybe.some os) = os
 
 -- the kept operations from a place on
 abbrev pub kept_at : List ℕ → ℕ → List Operation
 kept_at script at = kept (or_none (records_of (drop at script)))
 
-abbrev pub operation_at : List ℕ → Kept → Operation
-operation_at script k = cond k.reads (read k.length) (write (take k.length (drop (k.next - k.length) script)))
+abbrev pub operation_of : Kind → ℕ → List ℕ → Operation
+operation_of kind.Write n bytes = write bytes
+operation_of kind.Read n bytes = read n
 
-abbrev pub viewed : List ℕ → Kept → List Operation
-viewed script k = cond k.there (operation_at script k ∷ kept_at script k.next) []
+abbrev pub operation_at : List ℕ → Kept → Operation
+operation_at script k = operation_of k.kind k.length (take k.length (drop (k.next - k.length) script))
+
+abbrev pub viewed : List ℕ → Option Kept → List Operation
+viewed script None = []
+viewed script (Some k) = operation_at script k ∷ kept_at script k.next
+
+-- how many bytes it receives
+abbrev pub received_by : Kind → ℕ → ℕ
+received_by kind.Write n = 0
+received_by kind.Read n = n
+
+abbrev pub receives : Kept → ℕ
+receives k = received_by k.kind k.length
 
 -- a kept operation lies between two places of a script, and is as long as a record can say; a read of none is not kept
 abbrev pub Sound : Kept → Type 0
-Sound k = (k.length ≤ 65535) × (k.reads ≡ false → k.length ≤ k.next) × (k.reads ≡ true → 1 ≤ k.length)
+Sound k = (k.length ≤ 65535) × (k.kind ≡ kind.Write → k.length ≤ k.next) × (k.kind ≡ kind.Read → 1 ≤ k.length)
 
-abbrev pub Behind : ℕ → ℕ → Kept → Type 0
-Behind from end k = (from ≤ k.next) × (k.next ≤ end) × (k.there ≡ true → from < k.next) × Sound k
+abbrev pub Behind : ℕ → List ℕ → Kept → Type 0
+Behind from script k = (from < k.next) × (k.next ≤ length script) × Sound k × Readable (drop k.next script)
 
 -- "An operation starts if the one before it is not of its kind, stops if it is last, and a read continues if a read follows."
-abbrev pub flags_of : Kept → Kept → Kept → Flags
+abbrev pub is_read : Kind → Bool
+is_read kind.Write = false
+is_read kind.Read = true
+
+abbrev pub reads : Option Kept → Bool
+reads None = false
+reads (Some k) = is_read k.kind
+
+abbrev pub flags_of : Option Kind → Kept → Option Kept → Flags
 flags_of before ahead following =
-    record {
-      start = starts (before_of before) (direction_of ahead.reads);
-      stop = not following.there;
-      continues = following.there && following.reads;
-    }
+    record { start = starts (before_of before) (direction_of ahead.kind); stop = is_none following; continues = reads following }
 
 -- "Only the first piece starts, only the last stops; a read piece continues unless last of an operation that doesn't."
 abbrev pub piece_flags : Flags → Bool → Bool → Flags
@@ -103,8 +124,8 @@ size_of Beyond = 0
 abbrev pub list_for : ℕ → List ℕ → Found → CommandList
 list_for address script (Write from n start stop landing) = (write_step_of 32 address (take n (drop from script)) start stop).list
 list_for address script (Read n start stop continues landing) = (read_step_of 32 address n start stop continues).list
-list_for address script Over = (unlisted NoList).list
-list_for address script Beyond = (unlisted NoList).list
+list_for address script Over = (unlisted (Ok NoList)).list
+list_for address script Beyond = (unlisted (Ok NoList)).list
 
 -- how many bytes are to land, and where
 abbrev pub takes : Found → ℕ

@@ -2,41 +2,41 @@
 ghost use Rattle.std.specs.Prelude.{◌≡◌, ◌≤◌};
 ghost use Rattle.transaction.specs.Deadlines.{fixed_of, due_of};
 
-use crate::{Deadline, Timing};
+use crate::Deadline;
 use outcome::Due;
-
-const LAST_TIME: u64 = 0xFFFF_FFFF_FFFF_FFFF;
+use refusal::Refusal;
 
 // The deadline of all lists, from the clock at acceptance.
-pub(crate) fn fixed_due(deadline: Deadline, time: u64) -> Timing
+pub(crate) fn fixed_due(deadline: Deadline, time: u64) -> Result<Due, Refusal>
     ensures { result ≡ fixed_of deadline time }
 {
     match deadline {
-        Deadline::None => Timing::Told(Due::Never),
-        Deadline::PerByte(_) => Timing::Told(Due::Never),
+        Deadline::None | Deadline::PerByte(_) => Ok(None),
         Deadline::Fixed(duration) => {
-            if duration > LAST_TIME - time {
-                return Timing::OutOfRange;
-            }
-            Timing::Told(Due::At(time + duration))
+            let due = time.checked_add(duration).ok_or(Refusal::ClockRange)?;
+            Ok(Some(due))
         }
     }
 }
 
 // When the list of a piece of so many bytes is due. The address counts as a byte, sent or not.
-pub(crate) fn list_due(deadline: Deadline, fixed: Due, length: usize, time: u64) -> Timing
+pub(crate) fn list_due(
+    deadline: Deadline,
+    fixed: Due,
+    length: usize,
+    time: u64,
+) -> Result<Due, Refusal>
     requires { length ≤ 65535 }
     ensures { result ≡ due_of deadline fixed length time }
 {
     match deadline {
-        Deadline::None => Timing::Told(Due::Never),
-        Deadline::Fixed(_) => Timing::Told(fixed),
+        Deadline::None => Ok(None),
+        Deadline::Fixed(_) => Ok(fixed),
         Deadline::PerByte(duration) => {
             let bytes = length as u64 + 1;
-            if duration > (LAST_TIME - time) / bytes {
-                return Timing::OutOfRange;
-            }
-            Timing::Told(Due::At(time + duration * bytes))
+            let wait = duration.checked_mul(bytes).ok_or(Refusal::ClockRange)?;
+            let due = time.checked_add(wait).ok_or(Refusal::ClockRange)?;
+            Ok(Some(due))
         }
     }
 }

@@ -2,13 +2,12 @@
 #![tactic(auto)]
 
 ghost use Rattle.std.specs.Prelude.{◌≡◌};
-ghost use Rattle.transaction.specs.Calls.{accepted_by, begin_of, next_of, complete_of, buffer_of, resets, abandon_of};
-ghost use Rattle.transaction.specs.Numbers.{begin_number, next_number, completion_answer, abandon_number};
+ghost use Rattle.transaction.specs.Calls.{begin_of, next_of, complete_of, buffer_of, resets, abandon_of};
+ghost use Rattle.transaction.specs.Numbers.{beginning_number, handing_number, completion_answer, abandonment_number};
 
 use list::CommandList;
 use outcome::{Answer, Due, Error, Outcome, Snapshot};
-use refusal::Refusal;
-use script::Verdict;
+use refusal::{Numbered, Refusal};
 
 mod completing;
 mod deadlines;
@@ -30,9 +29,17 @@ pub struct Settings {
     pub deadline: Deadline,
 }
 
+// What is asked of a sensor: its address, and the script that says which operations.
+#[derive(Clone, Copy)]
+pub struct Request<'a> {
+    pub address: u32,
+    pub script: &'a [u8],
+}
+
 // The record: how many lists are completed; whether one more is outstanding, when it is due and whether its poll has succeeded;
 // whether the transaction has failed; and its fixed deadline.
-#[derive(Clone, Copy)]
+// Kept: flags and times of any combination, since `next_of` and `complete_of` answer every record, and `refusals_keep_state` speaks of all.
+#[derive(Clone, Copy, Default, PartialEq, Eq)]
 pub struct Progress {
     pub place: usize,
     pub outstanding: bool,
@@ -43,242 +50,213 @@ pub struct Progress {
 }
 
 // A transaction is accepted, or accepted and the bus has to be cleared first, without a reset.
-#[derive(Drop)]
+#[derive(Clone, Copy)]
 pub enum Beginning {
     Ready,
     ClearFirst,
-    Refused(Refusal),
 }
 
+// Kept: here and below an answer and the record stand side by side, since theorem `refusals_keep_state` speaks of the record, and of the
+// list, that a refusal hands back. As one generic type for three calls, each use would have to name its answer beside it.
 #[derive(Drop)]
 pub struct Begun {
-    pub answer: Beginning,
+    pub answer: Result<Beginning, Refusal>,
     pub progress: Progress,
 }
 
-#[derive(Drop)]
+#[derive(Clone, Copy)]
 pub enum Handing {
     Listed,
     NoneLeft,
-    Refused(Refusal),
 }
 
 // The list where there is one; else no word and no byte is set.
 #[derive(Drop)]
 pub struct Handed {
-    pub answer: Handing,
+    pub answer: Result<Handing, Refusal>,
     pub list: CommandList,
     pub progress: Progress,
 }
 
 #[derive(Drop)]
-pub enum Completion {
-    Told(Outcome),
-    Refused(Refusal),
-}
-
-#[derive(Drop)]
 pub struct Completed {
-    pub answer: Completion,
+    pub answer: Result<Outcome, Refusal>,
     pub progress: Progress,
 }
 
 // A transaction is given up; the controller may have to be reset, and the bus cleared.
-#[derive(Drop)]
+#[derive(Clone, Copy)]
 pub enum Abandonment {
     Quiet,
     ResetAndClear,
-    Refused(Refusal),
 }
 
 #[derive(Drop)]
 pub struct Abandoned {
-    pub answer: Abandonment,
+    pub answer: Result<Abandonment, Refusal>,
     pub progress: Progress,
 }
 
-// A time, or none that 64 bits can tell (13).
-#[derive(Drop)]
-pub enum Timing {
-    Told(Due),
-    OutOfRange,
-}
-
-fn accept(timing: Timing, busy: bool, before: Progress) -> Begun
-    ensures { result ≡ accepted_by timing busy before }
+// What the bus needs first, if the script is accepted for so much room; a refusal keeps the record.
+fn accept(
+    progress: &mut Progress,
+    settings: Settings,
+    request: Request<'_>,
+    room: usize,
+    busy: bool,
+    time: u64,
+) -> Result<Beginning, Refusal>
+    ensures { record { answer = result; progress = progress.new }
+        ≡ begin_of progress.old settings request.entry.address request.entry.script.now room busy time }
 {
-    match timing {
-        Timing::OutOfRange => Begun {
-            answer: Beginning::Refused(Refusal::ClockRange),
-            progress: before,
-        },
-        Timing::Told(fixed) => {
-            let progress = Progress {
-                place: 0,
-                outstanding: false,
-                due: Due::Never,
-                polled: false,
-                failed: false,
-                fixed: fixed,
-            };
-            if busy {
-                return Begun {
-                    answer: Beginning::ClearFirst,
-                    progress: progress,
-                };
-            }
-            Begun {
-                answer: Beginning::Ready,
-                progress: progress,
-            }
-        }
+    let total = script::read_script(request.address, request.script)?;
+    if room < total {
+        return Err(Refusal::Room);
     }
+    let fixed = deadlines::fixed_due(settings.deadline, time)?;
+    *progress = Progress {
+        fixed,
+        ..Progress::default()
+    };
+    Ok(if busy {
+        Beginning::ClearFirst
+    } else {
+        Beginning::Ready
+    })
 }
 
 // Accepts a script for a read buffer with so much room; a refusal hands the record back as it was.
 pub fn begin(
     before: Progress,
     settings: Settings,
-    address: u32,
-    script: &[u8],
+    request: Request<'_>,
     room: usize,
     busy: bool,
     time: u64,
 ) -> Begun
-    ensures { result ≡ begin_of before settings address script.now room busy time }
+    ensures { result ≡ begin_of before settings request.entry.address request.entry.script.now room busy time }
 {
-    let verdict = script::read_script(address, script);
-    match verdict {
-        Verdict::Refused(refusal) => Begun {
-            answer: Beginning::Refused(refusal),
-            progress: before,
-        },
-        Verdict::Accepted(total) => {
-            if room < total {
-                return Begun {
-                    answer: Beginning::Refused(Refusal::Room),
-                    progress: before,
-                };
-            }
-            let deadline = settings.deadline;
-            accept(deadlines::fixed_due(deadline, time), busy, before)
-        }
-    }
+    let mut progress = before;
+    let answer = accept(&mut progress, settings, request, room, busy, time);
+    Begun { answer, progress }
 }
 
 // The next list and the record that waits for it; or none is left.
-pub fn next_list(p: Progress, settings: Settings, address: u32, script: &[u8], time: u64) -> Handed
-    ensures { result ≡ next_of p settings address script.now time }
+#[tactic(auto, unfolding(list::specs::Lists::unlisted))]
+pub fn next_list(p: Progress, settings: Settings, request: Request<'_>, time: u64) -> Handed
+    ensures { result ≡ next_of p settings request.entry.address request.entry.script.now time }
 {
-    let verdict = script::read_script(address, script);
-    match verdict {
-        Verdict::Refused(refusal) => next::without_list(Handing::Refused(refusal), p),
-        Verdict::Accepted(_) => next::hand_turn(p, settings, address, script, time),
+    let mut progress = p;
+    match next::hand_out(&mut progress, settings, request, time) {
+        Ok(Some(list)) => Handed {
+            answer: Ok(Handing::Listed),
+            list,
+            progress,
+        },
+        Ok(None) => Handed {
+            answer: Ok(Handing::NoneLeft),
+            list: CommandList::default(),
+            progress,
+        },
+        Err(refusal) => Handed {
+            answer: Err(refusal),
+            list: CommandList::default(),
+            progress,
+        },
     }
 }
 
 // Tells what became of the outstanding list. With success the bytes that it received land in the read buffer.
 pub fn complete(
     p: Progress,
-    address: u32,
-    script: &[u8],
+    request: Request<'_>,
     snapshot: Snapshot,
     received: &[u8],
     buffer: &mut [u8],
 ) -> Completed
-    ensures { (result ≡ complete_of p address script.now snapshot received.now buffer.old)
+    ensures { (result ≡ complete_of p request.entry.address request.entry.script.now snapshot received.now buffer.old)
         × (buffer.new
-        ≡ buffer_of p address script.now snapshot received.now buffer.old) }
+        ≡ buffer_of p request.entry.address request.entry.script.now snapshot received.now buffer.old) }
 {
-    let verdict = script::read_script(address, script);
-    match verdict {
-        Verdict::Refused(refusal) => completing::refuse(refusal, p),
-        Verdict::Accepted(total) => completing::complete_turn(
-            p, script, total, snapshot, received, buffer,
-        ),
-    }
+    let mut progress = p;
+    let answer = completing::complete(&mut progress, request, snapshot, received, buffer);
+    Completed { answer, progress }
 }
 
 // A list that may still be under way: the controller has to be reset, and the bus cleared.
 fn may_run(poll: Outcome) -> bool
     ensures { result ≡ resets poll }
 {
-    match poll {
-        Outcome::Pending => true,
-        Outcome::Done => false,
-        Outcome::Failed(error) => match error {
-            Error::Timeout => true,
-            Error::ExecutionIncomplete => false,
-            Error::AcknowledgeCheckFailed(_) => false,
-            Error::ArbitrationLost => false,
-        },
-    }
+    matches!(poll, Outcome::Pending | Outcome::Failed(Error::Timeout))
 }
 
 // Gives the transaction up while a list is outstanding.
+#[tactic(auto, unfolding(crate::specs::Calls::abandon_of))]
 pub fn abandon(p: Progress, snapshot: Snapshot) -> Abandoned
     ensures { result ≡ abandon_of p snapshot }
 {
+    let mut progress = p;
     if !p.outstanding {
         return Abandoned {
-            answer: Abandonment::Refused(Refusal::OutOfTurn),
-            progress: p,
+            answer: Err(Refusal::OutOfTurn),
+            progress,
         };
     }
-    let progress = completing::fail(p);
-    if !p.polled {
-        let due = p.due;
-        if may_run(outcome::poll_completion(snapshot, due)) {
-            return Abandoned {
-                answer: Abandonment::ResetAndClear,
-                progress: progress,
-            };
+    progress.fail();
+    let answer = if !p.polled && may_run(outcome::poll_completion(snapshot, p.due)) {
+        Abandonment::ResetAndClear
+    } else {
+        Abandonment::Quiet
+    };
+    Abandoned {
+        answer: Ok(answer),
+        progress,
+    }
+}
+
+impl Numbered for Beginning {
+    ghost number_in = { beginning_number };
+
+    fn number(self) -> u8 {
+        match self {
+            Beginning::Ready => 0,
+            Beginning::ClearFirst => 253,
         }
     }
-    Abandoned {
-        answer: Abandonment::Quiet,
-        progress: progress,
+}
+
+impl Numbered for Handing {
+    ghost number_in = { handing_number };
+
+    fn number(self) -> u8 {
+        match self {
+            Handing::Listed => 0,
+            Handing::NoneLeft => 254,
+        }
     }
 }
 
-pub fn begin_number(answer: Beginning) -> u8
-    ensures { result ≡ begin_number answer }
-{
-    match answer {
-        Beginning::Ready => 0,
-        Beginning::ClearFirst => 253,
-        Beginning::Refused(refusal) => refusal::number(refusal),
-    }
-}
-
-pub fn next_number(answer: Handing) -> u8
-    ensures { result ≡ next_number answer }
-{
-    match answer {
-        Handing::Listed => 0,
-        Handing::NoneLeft => 254,
-        Handing::Refused(refusal) => refusal::number(refusal),
-    }
-}
-
-pub fn completion_answer(answer: Completion) -> Answer
+// By number, with the reason of an error.
+// Kept: a function, since neither `Result` nor `Answer` is of this crate, so it has no From.
+pub fn completion_answer(answer: Result<Outcome, Refusal>) -> Answer
     ensures { result ≡ completion_answer answer }
 {
     match answer {
-        Completion::Told(outcome) => outcome::numbered(outcome),
-        Completion::Refused(refusal) => Answer {
-            number: refusal::number(refusal),
+        Ok(outcome) => Answer::from(outcome),
+        Err(refusal) => Answer {
+            number: refusal.number(),
             reason: 0,
         },
     }
 }
 
-pub fn abandon_number(answer: Abandonment) -> u8
-    ensures { result ≡ abandon_number answer }
-{
-    match answer {
-        Abandonment::Quiet => 0,
-        Abandonment::ResetAndClear => 253,
-        Abandonment::Refused(refusal) => refusal::number(refusal),
+impl Numbered for Abandonment {
+    ghost number_in = { abandonment_number };
+
+    fn number(self) -> u8 {
+        match self {
+            Abandonment::Quiet => 0,
+            Abandonment::ResetAndClear => 253,
+        }
     }
 }

@@ -1,55 +1,19 @@
 // The list at a record's place.
-ghost use Rattle.std.specs.Prelude.{◌≡◌, ◌+◌, ◌≤◌, length, take, drop};
-ghost use Rattle.list.specs.declared.Built.{Built};
-ghost use Rattle.list.specs.Lists.{write_step_of};
-ghost use Rattle.transaction.specs.Walk.{Inside, list_for, Walkable, turn_in};
-ghost use Rattle.transaction.specs.Calls.{no_list, without_list, handed_by, turn_handed};
+ghost use Rattle.std.specs.Prelude.{◌≡◌, length};
+ghost use Rattle.transaction.specs.Walk.{Inside, list_for};
+ghost use Rattle.transaction.specs.Calls.{handed_as, next_of};
 
-use crate::walk::Found;
-use crate::{Handed, Handing, Progress, Settings, Timing, deadlines, walk};
+use crate::walk::{self, Found};
+use crate::{Progress, Request, Settings, deadlines};
 use list::CommandList;
 use refusal::Refusal;
 
-fn no_list() -> CommandList
-    ensures { result ≡ no_list }
-{
-    CommandList {
-        words: [0; 8],
-        fifo: [0; 32],
-        count: 0,
-    }
-}
-
-pub(crate) fn without_list(answer: Handing, p: Progress) -> Handed
-    ensures { result ≡ without_list answer p }
-{
-    Handed {
-        answer: answer,
-        list: no_list(),
-        progress: p,
-    }
-}
-
-// The list of a write, whose bytes go to it as a part of the script.
-fn build_write(
-    address: u32,
-    script: &[u8],
-    from: usize,
-    n: usize,
-    start: bool,
-    stop: bool,
-) -> CommandList
-    requires { from + n ≤ length script.now }
-    ensures { result ≡ (write_step_of 32 address (take n (drop from script.now)) start stop).list }
-{
-    let built = list::write_operation(address, &script[from..from + n], start, stop);
-    built.list
-}
-
-// The list of a piece.
-fn build(address: u32, script: &[u8], found: Found) -> CommandList
-    requires { Inside (length script.now) found }
-    ensures { result ≡ list_for address script.now found }
+// The list of a piece; a write's bytes are a part of the script. Inlined with the list's own functions.
+#[inline(always)]
+#[tactic(auto, unfolding(list::specs::Lists::unlisted))]
+fn build(request: Request<'_>, found: Found) -> CommandList
+    requires { Inside (length request.script.now) found }
+    ensures { result ≡ list_for request.entry.address request.entry.script.now found }
 {
     match found {
         Found::Write {
@@ -57,74 +21,52 @@ fn build(address: u32, script: &[u8], found: Found) -> CommandList
             length,
             start,
             stop,
-            landing: _,
-        } => build_write(address, script, from, length, start, stop),
+            ..
+        } => list::write_operation(
+            request.address,
+            &request.script[from..from + length],
+            start,
+            stop,
+        )
+        .list,
         Found::Read {
             length,
             start,
             stop,
             continues,
-            landing: _,
-        } => {
-            let built = list::read_operation(address, length, start, stop, continues);
-            built.list
-        }
-        Found::Over => no_list(),
-        Found::Beyond => no_list(),
+            ..
+        } => list::read_operation(request.address, length, start, stop, continues).list,
+        Found::Over | Found::Beyond => CommandList::default(),
     }
 }
 
-// Hands the list of a piece out, if the time at which it is due can be told.
-fn hand_out(timing: Timing, address: u32, script: &[u8], found: Found, p: Progress) -> Handed
-    requires { Inside (length script.now) found }
-    ensures { result ≡ handed_by timing (list_for address script.now found) p }
-{
-    match timing {
-        Timing::OutOfRange => without_list(Handing::Refused(Refusal::ClockRange), p),
-        Timing::Told(due) => {
-            let fixed = p.fixed;
-            Handed {
-                answer: Handing::Listed,
-                list: build(address, script, found),
-                progress: Progress {
-                    place: p.place,
-                    outstanding: true,
-                    due: due,
-                    polled: false,
-                    failed: p.failed,
-                    fixed: fixed,
-                },
-            }
-        }
-    }
-}
-
-// The list at the record's place of an accepted script.
-pub(crate) fn hand_turn(
-    p: Progress,
+// The next list, which the record then waits for, or none is left; a refusal keeps the record.
+pub(crate) fn hand_out(
+    progress: &mut Progress,
     settings: Settings,
-    address: u32,
-    script: &[u8],
+    request: Request<'_>,
     time: u64,
-) -> Handed
-    requires { Walkable script.now }
-    ensures { result ≡ turn_handed (turn_in script.now p.place) p settings address time }
+) -> Result<Option<CommandList>, Refusal>
+    ensures { handed_as result progress.new
+        ≡ next_of progress.old settings request.entry.address request.entry.script.now time }
 {
-    let found = walk::locate(script, p.place);
-    if walk::is_misplaced(found, p.outstanding) {
-        return without_list(Handing::Refused(Refusal::Shape), p);
+    script::read_script(request.address, request.script)?;
+    let found = walk::locate(request.script, progress.place);
+    if found.is_misplaced(progress.outstanding) {
+        return Err(Refusal::Shape);
     }
-    if p.outstanding {
-        return without_list(Handing::Refused(Refusal::OutOfTurn), p);
+    if progress.outstanding || progress.failed {
+        return Err(Refusal::OutOfTurn);
     }
-    if p.failed {
-        return without_list(Handing::Refused(Refusal::OutOfTurn), p);
+    if found.is_over() {
+        return Ok(None);
     }
-    if walk::is_over(found) {
-        return without_list(Handing::NoneLeft, p);
-    }
-    let deadline = settings.deadline;
-    let fixed = p.fixed;
-    let timing = deadlines::list_due(deadline, fixed, walk::size_of(found), time);
-    hand_out(timing, address, script, found, p)
+    let due = deadlines::list_due(settings.deadline, progress.fixed, found.size(), time)?;
+    *progress = Progress {
+        outstanding: true,
+        due,
+        polled: false,
+        ..*progress
+    };
+    Ok(Some(build(request, found)))
 }

@@ -1,9 +1,10 @@
 -- THE PLAN of a transaction: its command lists in turn. The first two arguments are the sizes of the FIFO and of a chunk: 32 and 31 in
 -- the base.
-use Rattle.std.specs.Prelude.{ℕ, List, [], ◌∷◌, ◌++◌}
+use Rattle.refusal.specs.declared.Refusal.{Refusal}
+use Rattle.std.specs.Prelude.{ℕ, List, [], ◌∷◌, ◌++◌, Result, Ok, Err}
 use Rattle.bus.specs.Operations.{Operation, kept}
 use Rattle.list.specs.declared.Answer.{Answer}
-use Rattle.list.specs.declared.Answer.TheVariants.{Listed, NoList, Refused}
+use Rattle.list.specs.declared.Answer.TheVariants.{Listed, NoList}
 use Rattle.list.specs.declared.Built.{Built}
 use Rattle.list.specs.declared.CommandList.{CommandList}
 use Rattle.list.specs.Lists.{write_step_of, read_step_of}
@@ -14,10 +15,10 @@ built_of f address (write_step bytes start stop) = write_step_of f address bytes
 built_of f address (read_step n start stop continues) = read_step_of f address n start stop continues
 
 -- the list, where there is one
-abbrev pub list_of : Answer → CommandList → List CommandList
-list_of Listed l = l ∷ []
-list_of NoList l = []
-list_of (Refused r) l = []
+abbrev pub list_of : Result Answer Refusal → CommandList → List CommandList
+list_of (Ok Listed) l = l ∷ []
+list_of (Ok NoList) l = []
+list_of (Err r) l = []
 
 unfoldable pub lists_of : ℕ → ℕ → List Step → List CommandList
 lists_of f address [] = []

@@ -1,35 +1,21 @@
 -- Laws of numbers in byte slices, for citing.
 -- Assumes nothing.
-use Prim.Native.Nat.{ℕ, suc, ◌+◌, ◌*◌, ◌≤◌, ◌<◌}
-use native.Mathlib.Nat.{add-zero, zero-add, zero-mul, suc-mul}
+use Prim.Native.Nat.{ℕ, ◌+◌, ◌-◌, ◌*◌, ◌≤◌, ◌<◌}
+use native.Mathlib.Nat.{zero-add, zero-mul, suc-mul}
 use native.Mathlib.Numerals.{add-one}
 use native.Mathlib.Omega.{arith}
-use mathlib.Core.Path.{◌≡◌, sym, ap, ◌∙◌}
+use mathlib.Core.Path.{◌≡◌, refl, sym, ap, ◌∙◌}
 use mathlib.Core.Bool.{cond}
 use mathlib.Core.List.{List, [], ◌∷◌, ◌++◌}
-use lib.ListN.{length, drop, set, get_or, replicate, length-append}
+use lib.ListN.{length, take, set, get_or, replicate, length-append}
 use lib.Dec.{leb}
-use lib.Seq.{sets, sets-eq, paste, paste-suc, take_all, drop-cons}
-use borrow.Author.Tests.{le-leb, lt-leb}
+use lib.Seq.{paste, paste-suc}
+use borrow.Author.Tests.{le-leb}
+use Rattle.std.proofs.lemmas.List.{take_more, length-take-le, append_assoc, append-nil}
+use Rattle.std.proofs.lemmas.List.Edits.{paste-paste}
+use Rattle.std.proofs.lemmas.Slice.{put_mid-paste}
+use borrow.Rule.Slice.PartMut.{put_mid}
 use Rattle.wire.specs.Numbers.{laid, time_at, words_of}
-
--- a word's bytes, one after another
-pub stored : (l : List ℕ) (at a b c d : ℕ) → set (set (set (set l at a) (at + 1) b) (at + 2) c) (at + 3) d ≡ sets l at (a ∷ b ∷ c ∷ d ∷ [])
-stored l at a b c d =
-    let one : at + 1 ≡ suc at = omega arith in
-    let two : at + 2 ≡ suc (suc at) = omega arith in
-    let three : at + 3 ≡ suc (suc (suc at)) = omega arith in
-    rw (one, two, three)
-
-pub sets_append : (xs ys l : List ℕ) (at : ℕ) → sets (sets l at xs) (at + length xs) ys ≡ sets l at (xs ++ ys)
-sets_append [] ys l at = rw add-zero
-sets_append (x ∷ xs) ys l at =
-    let further : at + suc (length xs) ≡ suc at + length xs = omega arith in
-    rw further (sets_append xs ys (set l at x) (suc at))
-
--- stored from a place on, as a copy
-pub stored_all : (vs l : List ℕ) (at : ℕ) → at + length vs ≤ length l → sets l at vs ≡ paste l at vs (length vs)
-stored_all vs l at h = sets-eq vs l at h ∙ rw (take_all (length vs) vs (omega arith))
 
 -- numbers one after another, each of so many bytes
 module _ (bytes : ℕ → List ℕ) (size : ℕ) (sized : (n : ℕ) → length (bytes n) ≡ size) where
@@ -39,24 +25,29 @@ module _ (bytes : ℕ → List ℕ) (size : ℕ) (sized : (n : ℕ) → length (
   laid_size (n ∷ ns) =
       length-append (bytes n) (laid bytes ns) ∙ rw (sized n, laid_size ns, suc-mul (length ns) size) (omega arith)
 
-  -- number by number: what is left gives the whole answer
-  pub next_laid :
-      (ns l : List ℕ) (i : ℕ)
-      → i < length ns
-      → sets (sets l (i * size) (bytes (get_or ns i 0))) ((i + 1) * size) (laid bytes (drop (i + 1) ns))
-      ≡ sets l (i * size) (laid bytes (drop i ns))
+  laid_behind : (ns : List ℕ) (n : ℕ) → laid bytes (ns ++ n ∷ []) ≡ laid bytes ns ++ bytes n
   unfolding laid
-  next_laid ns l i h =
-      let further : suc i * size ≡ i * size + length (bytes (get_or ns i 0)) = suc-mul i size ∙ rw (sized (get_or ns i 0)) (omega arith) in
-      rw (add-one i, further, drop-cons ns i 0) (sets_append (bytes (get_or ns i 0)) (laid bytes (drop (suc i) ns)) l (i * size))
+  laid_behind [] n = append-nil (bytes n)
+  laid_behind (m ∷ ns) n = ap (λ (s : List ℕ). bytes m ++ s) (laid_behind ns n) ∙ sym (append_assoc (bytes m) (laid bytes ns) (bytes n))
 
--- up to an end: where there is no room, nothing; where there is, the bytes
-module _ (at n end : ℕ) (ends : at + n ≡ end) (l vs : List ℕ) where
-  pub no_room : length l < end → l ≡ cond (leb end (length l)) (paste l at vs n) l
-  no_room h = rw (lt-leb end (length l) h)
-
-  pub put : length vs ≡ n → end ≤ length l → sets l at vs ≡ cond (leb end (length l)) (paste l at vs n) l
-  put e h = stored_all vs l at (omega (arith, e, ends)) ∙ rw (le-leb end (length l) h, e)
+  -- one number more is put behind those that are there
+  pub laid_more :
+      (ns d l ys : List ℕ) (i : ℕ)
+      → i < length ns
+      → ys ≡ bytes (get_or ns i 0)
+      → l ≡ paste d 0 (laid bytes (take i ns)) (i * size)
+      → put_mid (i * size) ((i + 1) * size - i * size) l ys ≡ paste d 0 (laid bytes (take (i + 1) ns)) ((i + 1) * size)
+  laid_more ns d l ys i h here before =
+      let further : (i + 1) * size ≡ i * size + size = rw (add-one i, suc-mul i size) (omega arith) in
+      let behind : laid bytes (take (i + 1) ns) ≡ laid bytes (take i ns) ++ bytes (get_or ns i 0) =
+      ap (laid bytes) (take_more ns i 0 h) ∙ laid_behind (take i ns) (get_or ns i 0) in
+      let front : i * size ≡ length (laid bytes (take i ns)) =
+      ap (λ (n : ℕ). n * size) (sym (length-take-le i ns (omega arith))) ∙ sym (laid_size (take i ns)) in
+      put_mid-paste (i * size) ((i + 1) * size - i * size) l ys (bytes (get_or ns i 0)) size here (omega (arith, further)) (sym (sized _))
+      ∙ ap (λ (s : List ℕ). paste s (i * size) (bytes (get_or ns i 0)) size) before
+      ∙ ap (λ (j : ℕ). paste (paste d 0 (laid bytes (take i ns)) (i * size)) j (bytes (get_or ns i 0)) size) (sym (zero-add (i * size)))
+      ∙ paste-paste d 0 (laid bytes (take i ns)) (bytes (get_or ns i 0)) (i * size) size front (sym (sized _)) (omega arith)
+      ∙ rw (behind, further) refl
 
 -- one byte more is copied
 pub copied :

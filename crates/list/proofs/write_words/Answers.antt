@@ -1,39 +1,44 @@
--- `list::write_words` meets its contract: what is stored is each command of the definition, in order.
+-- `list::write_words` meets its contract: what is pushed is each command of the definition, in order.
 use native.Mathlib.Omega.{arith}
-use mathlib.Core.Path.{sym}
+use native.Mathlib.Numerals.{add-one}
+use mathlib.Core.Path.{◌≡◌, sym}
 use lib.ListN.{length}
 use Rattle.command.specs.declared.Command.TheVariants.{Write}
-use Rattle.list.proofs.Laws.{counted_some, write_opened, write_more}
+use Rattle.list.specs.Lists.{write_commands}
+use Rattle.list.proofs.Laws.{counted_some, write_opened_fifo, write_more_fifo}
 use Rattle.list.proofs.write_words.Goals as goal
 
 pub returns-then-start : goal.returns-then-start
+unfolding write_commands
 returns-then-start c address bytes e =
     rw (
-      c.add_closing.ensures,
-      c.add_cmd-written.ensures,
-      c.add_cmd-opened.ensures,
+      c.words.ensures,
+      c.close.ensures,
+      c.push-then-start.ensures,
+      c.push.ensures,
+      c.new-table.ensures,
       c.if-start.true,
+      write_opened_fifo,
       e,
-      write_opened,
+      add-one (length bytes),
     )
 
-pub returns-then-n-eq0 : goal.returns-then-n-eq0
-returns-then-n-eq0 c address bytes e =
+pub returns-then-n-gt0 : goal.returns-then-n-gt0
+unfolding write_commands
+returns-then-n-gt0 c address bytes e =
     rw (
-      c.add_closing-then-n-eq0.ensures,
+      c.words-then-n-gt0.ensures,
+      c.close-then-n-gt0.ensures,
+      c.push-then-n-gt0.ensures,
+      c.new-table.ensures,
       c.if-start.false,
-      write_more,
-      sym e,
-      c.if-n-eq0.true,
+      write_more_fifo,
+      e,
+      counted_some Write (length bytes) (omega arith),
     )
 
 pub returns : goal.returns
+unfolding write_commands
 returns c address bytes e =
-    rw (
-      c.add_closing-2.ensures,
-      c.add_cmd-written-2.ensures,
-      c.if-start.false,
-      e,
-      write_more,
-      counted_some Write (length bytes) (omega arith),
-    )
+    let none : c.args.n ≡ 0 = omega arith in
+    rw (c.words-2.ensures, c.close-2.ensures, c.new-table.ensures, c.if-start.false, write_more_fifo, sym e, none)

@@ -1,73 +1,57 @@
--- `controller::inspect_from` meets its contract. The loop's invariant: the verdict on what is left of the words is the verdict on all.
-use Prim.Native.Nat.{◌+◌}
+use Prim.Native.Nat.{ℕ, ◌+◌, ◌<◌}
 use mathlib.Core.Path.{◌≡◌, sym, ap, ◌∙◌}
-use mathlib.Core.List.{◌∷◌}
-use lib.ListN.{drop, get_or}
+use mathlib.Core.List.{List, ◌∷◌}
+use lib.ListN.{length, get_or, drop}
+use Rattle.std.specs.Prelude.{Option}
 use native.Mathlib.Omega.{arith}
+use Rattle.controller.specs.declared.Phase.{Phase}
+use Rattle.controller.specs.Rules.{State}
 use Rattle.controller.specs.Places.{state_at}
-use Rattle.controller.specs.Model.{run_from, run_list, done}
+use Rattle.controller.specs.Model.{run_from, done}
 use Rattle.controller.specs.Verdicts.{willing, verdict_of}
 use Rattle.controller.proofs.LawsRuns.{fifo_exceeded, fifo_fits, words_here, words_over, word_malformed, word_halts, word_goes, word_finishes}
-use Rattle.controller.proofs.inspector.inspect_from.Goals.{Else-fifo-gt-FIFO, In-loop-i}
 use Rattle.controller.proofs.inspector.inspect_from.Goals as goal
 
-pub returns-then-fifo-gt-FIFO : goal.returns-then-fifo-gt-FIFO
-returns-then-fifo-gt-FIFO c = sym (fifo_exceeded 32 _ c.args.phase c.if-fifo-gt-FIFO.true)
-
--- by the effect: the verdict on the word at hand and those after it
+-- the verdict on the word at hand and those after it
 here :
-    (c : In-loop-i)
-    → verdict_of
-    (run_from 32 (get_or c.args.words c.loop-i.i 0 ∷ drop (c.loop-i.i + 1) c.args.words) (state_at c.args.fifo.now c.loop-i.s) willing done)
-    ≡ verdict_of
-    (run_from 32 c.args.words (record { phase = c.args.phase; fifo = c.args.fifo.now; received = 0 }) willing done)
-here c =
-    let a = c.args in
-    ap verdict_of (sym (words_here 32 a.words c.loop-i.i (state_at a.fifo.now c.loop-i.s) (omega arith))) ∙ c.loop-i.invariant.3
+    (words : List ℕ) (i : ℕ) (s : State) (verdict : Option Phase)
+    → i < length words
+    → verdict_of (run_from 32 (drop i words) s willing done) ≡ verdict
+    → verdict_of (run_from 32 (get_or words i 0 ∷ drop (i + 1) words) s willing done) ≡ verdict
+here words i s verdict h e = sym (ap verdict_of (words_here 32 words i s h)) ∙ e
 
--- and on the whole list
-whole :
-    (c : Else-fifo-gt-FIFO)
-    → verdict_of
-    (run_from 32 c.args.words (record { phase = c.args.phase; fifo = c.args.fifo.now; received = 0 }) willing done)
-    ≡ verdict_of (run_list 32 (record { words = c.args.words; fifo = c.args.fifo.now }) c.args.phase willing done)
-whole c = sym (fifo_fits 32 _ c.args.phase c.if-fifo-gt-FIFO.false)
+pub returns-in_err-place : goal.returns-in_err-place
+returns-in_err-place c = c.from_residual.ensures ∙ sym (fifo_exceeded 32 _ c.args.phase c.in_err-place.ensures)
 
-pub returns-in-Malformed : goal.returns-in-Malformed
-returns-in-Malformed c =
-    let at_word = goal.at.returns-in-Malformed c in
-    sym (word_malformed 32 _ _ _ (sym c.decode-meaning.ensures ∙ c.in-Malformed.is))
-    ∙ here at_word.In-loop-i ∙ whole at_word.Else-fifo-gt-FIFO
+pub loop-word-init : goal.loop-word-init
+loop-word-init c = let h = c.in_ok-place.ensures in rw h.1 (sym (fifo_fits 32 _ c.args.phase h.0))
+
+pub returns-in_err-decode : goal.returns-in_err-decode
+returns-in_err-decode c =
+    let l = c.loop-word in
+    c.from_residual-in_err-decode.ensures
+    ∙ sym (word_malformed 32 _ _ _ (sym c.in_err-decode.ensures))
+    ∙ here _ l.word-index _ _ (omega arith) l.invariant
 
 pub returns-in-Halts : goal.returns-in-Halts
 returns-in-Halts c =
-    let at_word = goal.at.returns-in-Halts c in
-    sym
-    (word_halts 32 _ _ _ _ (sym c.decode-meaning.ensures ∙ c.in-Planned.is)
-    (rw c.in-Halts.is at c.take_turn-taken.ensures))
-    ∙ here at_word.In-loop-i ∙ whole at_word.Else-fifo-gt-FIFO
+    let l = c.loop-word in
+    sym (word_halts 32 _ _ _ _ (sym c.in_ok-decode.ensures) c.in-Halts.ensures)
+    ∙ here _ l.word-index _ _ (omega arith) l.invariant
 
 pub returns-in-Finishes : goal.returns-in-Finishes
 returns-in-Finishes c =
-    let at_word = goal.at.returns-in-Finishes c in
-    sym
-    (word_finishes 32 _ _ _ _ (sym c.decode-meaning.ensures ∙ c.in-Planned.is) _
-    (rw c.in-Finishes.is at c.take_turn-taken.ensures))
-    ∙ here at_word.In-loop-i ∙ whole at_word.Else-fifo-gt-FIFO
+    let l = c.loop-word in
+    sym (word_finishes 32 _ _ _ _ (sym c.in_ok-decode.ensures) _ c.in-Finishes.ensures)
+    ∙ here _ l.word-index _ _ (omega arith) l.invariant
 
-pub loop-i-preserved : goal.loop-i-preserved
-loop-i-preserved c =
-    let moved = rw c.in-GoesOn.is at c.take_turn-taken.ensures in (
-      omega arith,
-      c.loop-i.invariant.1,
-      moved.1,
-      sym (word_goes 32 _ _ _ _ (sym c.decode-meaning.ensures ∙ c.in-Planned.is) _ moved.0)
-          ∙ here (goal.at.loop-i-preserved c).In-loop-i,
-    )
+pub loop-word-preserved : goal.loop-word-preserved
+loop-word-preserved c =
+    let l = c.loop-word in
+    sym (word_goes 32 _ _ _ _ (sym c.in_ok-decode.ensures) _ c.in-GoesOn.ensures)
+    ∙ here _ l.word-index _ _ (omega arith) l.invariant
 
 pub returns : goal.returns
 returns c =
-    let a = c.args in
-    let l = c.loop-i in
-    sym (words_over 32 a.words l.i (state_at a.fifo.now l.s) (omega arith)) ∙ l.invariant.3
-    ∙ whole (goal.at.returns c).Else-fifo-gt-FIFO
+    let l = c.loop-word in
+    sym (words_over 32 c.args.list.words l.word-index (state_at l.place) (omega arith)) ∙ l.invariant

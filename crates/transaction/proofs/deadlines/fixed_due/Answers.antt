@@ -1,16 +1,16 @@
 -- `transaction::deadlines::fixed_due` meets its contract.
-use native.Mathlib.Omega.{arith}
+use mathlib.Core.Path.{sym, ◌∙◌}
+use Rattle.std.proofs.lemmas.Result.{err_from_is_err_and}
 use Rattle.transaction.proofs.LawsDeadlines.{sum_told, sum_out}
 use Rattle.transaction.proofs.deadlines.fixed_due.Goals as goal
 
-pub returns-then-duration-time : goal.returns-then-duration-time
-returns-then-duration-time c = rw c.in-Fixed.is (sum_out c.args.time c.in-Fixed.duration c.if-duration-time.true)
+pub returns-in_err-due-in-Fixed : goal.returns-in_err-due-in-Fixed
+returns-in_err-due-in-Fixed c =
+    let p = err_from_is_err_and c.from_residual.result c.from_residual.ensures.1 in
+    rw (p.1, p.2, c.in-Fixed.is)
+    (sum_out c.checked_add.result _ _ c.checked_add.ensures (sym c.ok_or.ensures.value ∙ c.in_err-due-in-Fixed.was))
 
-pub returns-in-None : goal.returns-in-None
-returns-in-None c = rw c.in-None.is
-
-pub returns-in-PerByte : goal.returns-in-PerByte
-returns-in-PerByte c = rw c.in-PerByte.is
-
-pub returns-else-duration-time : goal.returns-else-duration-time
-returns-else-duration-time c = rw c.in-Fixed.is (sum_told c.args.time c.in-Fixed.duration (omega arith) c.if-duration-time.false)
+pub returns-in_ok-due-in-Fixed : goal.returns-in_ok-due-in-Fixed
+returns-in_ok-due-in-Fixed c =
+    rw c.in-Fixed.is
+    (sum_told c.checked_add.result _ _ c.checked_add.ensures (sym c.ok_or.ensures.value ∙ c.in_ok-due-in-Fixed.was))

@@ -1,13 +1,25 @@
 -- `transaction::walk::count_lists` meets its contract.
-use mathlib.Core.Path.{◌∙◌}
+use mir.Val.{bool_byte}
+use mathlib.Core.Path.{ap, ◌∙◌}
 use native.Mathlib.Omega.{arith}
-use Rattle.transaction.proofs.LawsOperation.{lists_of_pieces}
+use Rattle.transaction.proofs.LawsOperation.{one_most, stops_most, starting_list, stopping_lists, lists_of_pieces}
+use Rattle.transaction.proofs.walk.count_lists.Goals.{then-flags, else-flags}
 use Rattle.transaction.proofs.walk.count_lists.Goals as goal
 
 pub returns-then-size-eq0 : goal.returns-then-size-eq0
 returns-then-size-eq0 c =
+    let flags = c.args.flags in
     let empty = c.if-size-eq0.true in
-    ((λ o z. c.count_empty.ensures.0 o (rw empty at z)), rw empty c.count_empty.ensures.1)
+    elim c.if-flags.branch [
+      | then-flags w ↦ (
+        (λ o z. c.from.ensures ∙ ap bool_byte (w.from-is ∙ w.if-flags.true) ∙ starting_list o flags (rw empty at z) w.if-flags.true),
+        rw (c.from.ensures, w.from-is, w.if-flags.true, empty) one_most,
+      )
+      | else-flags w ↦ (
+        (λ o z. rw (c.from.ensures, w.from-is) (stopping_lists o flags (rw empty at z) w.if-flags.false)),
+        rw (c.from.ensures, w.from-is, empty) (stops_most flags),
+      )
+    ]
 
 pub returns : goal.returns
 returns c =

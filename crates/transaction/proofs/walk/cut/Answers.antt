@@ -15,11 +15,11 @@ returns-then-length-le-CHUNK c =
 pub overflow_sub-length : goal.overflow_sub-length
 overflow_sub-length c =
     let args = c.args in
-    rw c.piece_start-start.ensures (start_most 31 args.length args.at)
+    rw c.piece_start-offset.ensures (start_most 31 args.length args.at)
 
 pub returns : goal.returns
 returns c = (
-  c.piece_start-start.ensures,
+  c.piece_start-offset.ensures,
   c.calculate_chunk_size.ensures,
   c.flags_at.ensures ∙ rw c.count_pieces-all.ensures,
 )

@@ -7,69 +7,52 @@ use Rattle.transaction.proofs.LawsStanding.{inside_wider, standing_first, standi
 use Rattle.transaction.proofs.walk.locate.Goals.{After-count_lists-lists}
 use Rattle.transaction.proofs.walk.locate.Goals as goal
 
-pub loop-ahead-init : goal.loop-ahead-init
-loop-ahead-init c =
-    let args = c.args in
-    standing_first args.script.now args.place c.nothing_at-before.result c.next_kept-ahead.result
-    c.nothing_at-before.ensures c.next_kept-ahead.ensures
-
-pub returns-then-left-eq0 : goal.returns-then-left-eq0
-returns-then-left-eq0 c =
-    let args = c.args in
-    let l = c.loop-ahead in (
-      standing_over args.script.now args.place l.before l.ahead l.left l.landing l.invariant c.if-not-ahead.true c.if-left-eq0.true,
-      tt,
-      (λ t. absurd (false≢true t)),
-    )
-
-pub returns-then-not-ahead : goal.returns-then-not-ahead
-returns-then-not-ahead c =
-    let args = c.args in
-    let l = c.loop-ahead in (
-      standing_beyond args.script.now args.place l.before l.ahead l.left l.landing l.invariant c.if-not-ahead.true c.if-left-eq0.false,
-      tt,
-      (λ t. absurd (false≢true t)),
-    )
-
-pub next_kept-following-requires : goal.next_kept-following-requires
-next_kept-following-requires c = (c.loop-ahead.invariant.0, c.loop-ahead.invariant.2)
+pub loop-current-init : goal.loop-current-init
+loop-current-init c =
+    standing_first c.args.script.now c.args.place c.next_kept-current.result c.next_kept-current.ensures
 
 here :
     (c : After-count_lists-lists)
-    → Onward c.args.script.now c.args.place c.loop-ahead.ahead c.next_kept-following.result
-    c.flags_of-flags.result c.count_lists-lists.result c.loop-ahead.left c.loop-ahead.landing
+    → Onward c.args.script.now c.args.place c.in-Some.ahead c.next_kept-following.result
+    c.flags_of-flags.result c.count_lists-lists.result c.loop-current.left c.loop-current.landing
 here c =
     let args = c.args in
-    let l = c.loop-ahead in
+    let l = c.loop-current in
     let following = c.next_kept-following in
     let flags = c.flags_of-flags in
-    onward args.script.now args.place l.before l.ahead l.left l.landing l.invariant c.if-not-ahead.false
+    onward args.script.now args.place l.before l.left l.landing c.in-Some.ahead (rw c.in-Some.is at l.invariant)
     following.result following.ensures flags.result flags.ensures c.count_lists-lists.result c.count_lists-lists.ensures
     c.requires.1
-
-pub piece-requires : goal.piece-requires
-piece-requires c =
-    let on = here (goal.at.piece-requires c).After-count_lists-lists in
-    (c.loop-ahead.invariant.1, omega (arith, c.if-left-lists.true, c.count_lists-lists.ensures.1), omega (arith, on.lands))
 
 pub returns-then-left-lists : goal.returns-then-left-lists
 returns-then-left-lists c =
     let s = c.args.script.now in
-    let l = c.loop-ahead in
+    let ahead = c.in-Some.ahead in
     let on = here (goal.at.returns-then-left-lists c).After-count_lists-lists in
+    let known = (rw c.in-Some.is at c.loop-current.invariant).0 in
     let inside = c.if-left-lists.true in (
-      c.piece.ensures.0 s l.invariant.0 (omega (arith, inside, on.lists_are)) ∙ on.here inside,
-      inside_wider l.ahead.next (length s) c.piece.result l.invariant.0 c.piece.ensures.1,
+      c.piece.ensures.0 s known.0 (omega (arith, inside, on.lists_are)) ∙ on.here inside,
+      inside_wider ahead.next (length s) c.piece.result known.0 c.piece.ensures.1,
       (λ t. on.bound inside),
     )
 
-pub overflow_add-landing : goal.overflow_add-landing
-overflow_add-landing c =
-    let on = here (goal.at.overflow_add-landing c).After-count_lists-lists in
-    omega (arith, on.lands, on.receives_few c.received-landing.result c.received-landing.ensures)
+pub loop-current-preserved : goal.loop-current-preserved
+loop-current-preserved c =
+    rw c.received-landing.ensures
+    ((here (goal.at.loop-current-preserved c).After-count_lists-lists).next c.if-left-lists.false)
 
-pub loop-ahead-smaller : goal.loop-ahead-smaller
-loop-ahead-smaller c = (here (goal.at.loop-ahead-smaller c).After-count_lists-lists).less
+pub returns-then-left-eq0 : goal.returns-then-left-eq0
+returns-then-left-eq0 c =
+    let l = c.loop-current in (
+      standing_over c.args.script.now c.args.place l.before l.left l.landing (rw c.in_default.is at l.invariant) c.if-left-eq0.true,
+      tt,
+      (λ t. absurd (false≢true t)),
+    )
 
-pub loop-ahead-preserved : goal.loop-ahead-preserved
-loop-ahead-preserved c = (here (goal.at.loop-ahead-preserved c).After-count_lists-lists).next c.received-landing.result c.received-landing.ensures c.if-left-lists.false
+pub returns-else-left-eq0 : goal.returns-else-left-eq0
+returns-else-left-eq0 c =
+    let l = c.loop-current in (
+      standing_beyond c.args.script.now c.args.place l.before l.left l.landing (rw c.in_default.is at l.invariant) c.if-left-eq0.false,
+      tt,
+      (λ t. absurd (false≢true t)),
+    )

@@ -1,9 +1,0 @@
--- `plan::text::take_bytes` reads each pair of digits once.
-use Rattle.std.proofs.Common.{◌-◌, ◌≤◌, length}
-use Rattle.plan.proofs.text.take_bytes.Given as goal
-
-abbrev pub invariant-loop-i : goal.invariant-loop-i
-invariant-loop-i l = l.i ≤ length l.word
-
-abbrev pub decreases-loop-i : goal.decreases-loop-i
-decreases-loop-i l = length l.word - l.i

@@ -1,9 +1,0 @@
--- `plan::tokens::decimal_number` reads each digit once.
-use Rattle.std.proofs.Common.{◌-◌, ◌≤◌, length}
-use Rattle.plan.proofs.tokens.decimal_number.Given as goal
-
-abbrev pub invariant-loop-i : goal.invariant-loop-i
-invariant-loop-i l = l.i ≤ length l.word
-
-abbrev pub decreases-loop-i : goal.decreases-loop-i
-decreases-loop-i l = length l.word - l.i
