@@ -6,13 +6,15 @@ use controller::model::Sensor;
 use controller::{Commands, model};
 use list::CommandList;
 use outcome::Outcome;
-use std::alloc::Global;
 use std::io::Write;
 use std::{array, io};
 use transaction::{Handing, Progress, Request, Settings};
 
 // The bytes of the FIFO, and the bytes that one list may receive.
 const FIFO: usize = 32;
+
+// Room for the events of any transaction, two bytes each: a script writes and reads at most 8,189 bytes in at most 1,366 records.
+const EVENTS: usize = 65536;
 
 // Room for the events of a list: eight words, 32 FIFO bytes and 32 received bytes cause at most 72.
 const ROOM: usize = 144;
@@ -38,7 +40,7 @@ pub(super) struct Course<'a> {
     phase: u32,
     sends: u8,
     buffer: [u8; READ_BUFFER],
-    pub(super) events: Vec<u8>,
+    pub(super) events: ArrayVec<u8, EVENTS>,
 }
 
 fn done(word: u32) -> u32 {
@@ -46,12 +48,7 @@ fn done(word: u32) -> u32 {
 }
 
 impl<'a> Course<'a> {
-    pub(super) fn new(
-        alloc: Global,
-        progress: Progress,
-        settings: Settings,
-        request: Request<'a>,
-    ) -> Course<'a> {
+    pub(super) fn new(progress: Progress, settings: Settings, request: Request<'a>) -> Course<'a> {
         Course {
             request,
             settings,
@@ -60,12 +57,12 @@ impl<'a> Course<'a> {
             phase: 0,
             sends: 0,
             buffer: [0; READ_BUFFER],
-            events: Vec::new(alloc),
+            events: ArrayVec::new(),
         }
     }
 
     // Runs a list, and answers what it receives of a sensor that sends a byte more each time.
-    fn run_list(&mut self, list: Commands<'_>) -> io::Result<ArrayVec<u8, FIFO>> {
+    fn run_list(&mut self, list: Commands<'_>) -> ArrayVec<u8, FIFO> {
         let first = self.sends;
         let sends: [u8; FIFO] = array::from_fn(|i| first.wrapping_add(i as u8));
         let sensor = Sensor {
@@ -82,10 +79,10 @@ impl<'a> Course<'a> {
             &mut events,
         );
         let (laid, _) = events.split_at(2 * report.events.min(ROOM / 2));
-        self.events.extend_from_slice(laid)?;
+        let _fits = self.events.try_extend_from_slice(laid);
         received.truncate(report.received);
         self.sends = first.wrapping_add(received.len() as u8);
-        Ok(received)
+        received
     }
 
     // Prints, runs and completes a list, and says whether the transaction goes on.
@@ -96,7 +93,7 @@ impl<'a> Course<'a> {
             fifo: &list.fifo[..list.count.min(FIFO)],
         };
         let phase = print_list(out, self.lists, commands, self.progress.due, self.phase)?;
-        let received = self.run_list(commands)?;
+        let received = self.run_list(commands);
         self.phase = phase;
         let snapshot = outcome::unpack(COMPLETED, list.words.map(done), 0);
         let completed = transaction::complete(

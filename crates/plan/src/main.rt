@@ -11,7 +11,6 @@
 #![tactic(auto)]
 
 use course::{Course, READ_BUFFER};
-use std::alloc::Global;
 use std::io;
 use std::io::{Read, Write};
 use text::Asked;
@@ -51,7 +50,7 @@ fn print_heading(out: &mut impl Write, asked: &Asked) -> io::Result<()> {
     }
 }
 
-fn show(out: &mut impl Write, alloc: Global, asked: &Asked) -> io::Result<()> {
+fn show(out: &mut impl Write, asked: &Asked) -> io::Result<()> {
     print_heading(out, asked)?;
     let settings = Settings {
         deadline: asked.deadline,
@@ -71,10 +70,10 @@ fn show(out: &mut impl Write, alloc: Global, asked: &Asked) -> io::Result<()> {
     if let Err(refusal) = begun.answer {
         return refusals::print_refusal(out, refusal, request.script);
     }
-    let mut course = Course::new(alloc, begun.progress, settings, request);
+    let mut course = Course::new(begun.progress, settings, request);
     course.run(out)?;
     writeln!(out, "\nbus")?;
-    let traffic = traffic::print_traffic(out, &course.events)?;
+    let traffic = traffic::print_traffic(out, course.events.as_slice())?;
     writeln!(
         out,
         "\nlists {}, bytes written {}, bytes read {}",
@@ -84,13 +83,15 @@ fn show(out: &mut impl Write, alloc: Global, asked: &Asked) -> io::Result<()> {
 
 fn main(rt: HostRuntime) -> io::Result<()> {
     let mut out = rt.stdout();
-    let mut text = Vec::new(rt.alloc());
-    rt.stdin().take(TOO_LONG as u64).read_to_end(&mut text)?;
-    if text.len() >= TOO_LONG {
+    // Kept: the text is read into fixed memory, so that no lack of memory can end the program.
+    let mut text = [0; TOO_LONG];
+    let mut room = &mut text[..];
+    let n = io::copy(&mut rt.stdin().take(TOO_LONG as u64), &mut room)? as usize;
+    if n >= TOO_LONG {
         return writeln!(out, "the text is longer than 65,535 bytes");
     }
-    match text::read_text(&text) {
-        Ok(asked) => show(&mut out, rt.alloc(), &asked),
+    match text::read_text(&text[..n]) {
+        Ok(asked) => show(&mut out, &asked),
         Err(unreadable) => writeln!(out, "{unreadable}"),
     }
 }
