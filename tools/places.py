@@ -3,8 +3,8 @@
 
     python3 tools/places.py [POINT..] [--list]     how many lines of src/ each search finds, or the lines themselves
 
-A line that is found is a candidate: the page says which are places, and what became of each. A line whose reason to stay stands beside it,
-in a comment that begins with `Kept:` right above it or above the item that it stands in, is counted as kept too.
+A line that is found is a candidate: the page says which are places, and what became of each. Counted last are the reasons to stay, which
+stand beside their places in comments that begin with `Kept:`.
 """
 
 import re
