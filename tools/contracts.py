@@ -126,3 +126,22 @@ def weaknesses(function, file, reader):
     for left in equal:
         if left not in owed(function):
             yield f'an equation for `{left}`, which is neither the result nor what lent memory holds in the end'
+
+
+def impl_weaknesses(each, own_traits):
+    """What the ghost members of an `impl` leave open. One is an equation for the last of its variables, which is what a call gives; or, of a
+    trait of the repository, the function by which the trait's own contract says that."""
+    trait = re.sub(r'<.*', '', each.path[-1])
+    for _, clause in each.clauses:
+        member = sources.normal(clause)
+        found = re.fullmatch(r'λ ([^.]*\S)\. (.*)', member, re.S)
+        if not found:
+            if trait not in own_traits:
+                yield f'`{member}` is no equation'
+            continue
+        given = found[1].split()[-1]
+        sides = parted(unwrapped(found[2]), '≡')
+        if len(sides) != 2 or unwrapped(sides[0]) != given:
+            yield f'`{member}` is no equation for `{given}`'
+        elif given in sources.tokens(sides[1]):
+            yield f'`{given}` is said by what is left itself: `{sides[1]}`'

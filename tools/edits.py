@@ -30,7 +30,7 @@ REFUSED = re.compile(r'refused, as it must be(?P<only> \(only [^)]*\))?: (?P<fir
 # What `rt` shows of a line ends here.
 SHOWN = 160
 REJECTED = re.compile(r'(?:\./)?(?P<file>[^\s:]+):\d+:\d+: error: `(?P<name>[^`]+)`')
-OPEN = r'it is not proved that|`search` found no proof|index \d+ is out of bounds'
+OPEN = r'it is not proved that|`search` found no proof'
 UNPROVED = re.compile(rf'note: (?P<file>[^\s:]+):(?P<line>\d+):\d+: (?:{OPEN}) .*?\(`(?P<goal>[^`]+)')
 PROOF_OF_A_FUNCTION = re.compile(r'proofs/(?P<path>.+)/(?:Answers|Invariants|Proof)\.antt')
 

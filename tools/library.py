@@ -29,8 +29,8 @@ LIBRARY = OUT / f'lib{NAME}.a'
 HEADER = ROOT / f'include/{NAME}.h'
 VERSION = '0.1.0'
 
-# C's functions on memory are all that the library may need.
-MEMORY_FUNCTIONS = {'memcpy', 'memset', 'memmove', 'memcmp', 'bcmp'}
+# The functions of C that the library may need: a firmware has these two.
+MEMORY_FUNCTIONS = {'memcpy', 'memset'}
 
 
 def fail(words):

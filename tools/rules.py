@@ -44,11 +44,13 @@ def no_requires_at_the_boundary(root):
 
 def contracts_are_equations(root):
     """A contract settles what is returned and what each lent memory holds in the end: an equation each, directly or through an abbreviation
-    or a record of `specs/`, and none that is said by itself."""
-    declared = statements.Reader(root).declared
-    return [f'{place(root, file, function.line)}: `{name}`: {weakness}'
-            for file, name, function in sources.public_calls(root)
-            for weakness in contracts.weaknesses(function, str(file.relative_to(root / 'crates')), declared)]
+    or a record of `specs/`, and none that is said by itself. So does an `impl` of a trait."""
+    declared, own_traits = statements.Reader(root).declared, sources.own_traits(root)
+    return ([f'{place(root, file, function.line)}: `{name}`: {weakness}'
+             for file, name, function in sources.public_calls(root)
+             for weakness in contracts.weaknesses(function, str(file.relative_to(root / 'crates')), declared)]
+            + [f'{place(root, file, each.line)}: `{name}`: {weakness}'
+               for file, name, each in sources.public_impls(root) for weakness in contracts.impl_weaknesses(each, own_traits)])
 
 
 def contracts_as_promised(root):

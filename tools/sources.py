@@ -8,6 +8,7 @@ from pathlib import Path
 CODE_SKIPPED = r'//[^\n]*|/\*.*?\*/|"(?:\\.|[^"\\])*"|b\'(?:\\.|[^\'\\])\''
 ANTT_SKIPPED = r'(?<!\S)--[^\n]*|\{-.*?-\}|"(?:\\.|[^"\\])*"'
 
+QUOTED = re.compile(r'"(?:\\.|[^"\\])*"')
 CODE_BRACES = re.compile(CODE_SKIPPED + r'|[{}]', re.S)
 ANTT_BRACES = re.compile(ANTT_SKIPPED + r'|[{}]', re.S)
 ITEM = re.compile(
@@ -15,7 +16,7 @@ ITEM = re.compile(
     + r'|\bghost\s+use\b[^;]*;'
     + r'|(?P<pub>\bpub\s+)?(?:\bextern\s+"C"\s+)?\bfn\s+(?P<fn>\w+)'
     + r'|(?P<shown>\bpub\s+)?\b(?:struct|enum)\s+(?P<type>\w+)'
-    + r'|\bimpl\b\s*(?:<(?P<parameters>[^>]*)>\s*)?(?P<impl>[^{;]*?)\s*(?:\bwhere\b[^{]*)?\{'
+    + r'|\bimpl\b\s*(?:<(?P<parameters>[^>]*)>\s*)?(?P<impl>(?:\[(?:[^\[\]]|\[[^\[\]]*\])*\]|[^{;\[])*?)\s*(?:\bwhere\b[^{]*)?\{'
     + r'|(?P<open>\bpub\s+)?\btrait\s+(?P<trait>\w+)[^{]*\{'
     + r'|\bmod\s+(?P<mod>\w+)\s*\{'
     + r'|(?P<brace>[{}])',
@@ -61,8 +62,9 @@ def listed_crates(root):
 # ---- text
 
 def normal(text):
-    """A text whose spacing says nothing: one space between words, none at a bracket."""
-    return BRACKETS.sub(r'\1', ' '.join(text.split()))
+    """A text whose spacing says nothing: one space between words, none at a bracket. What is quoted stays as it is."""
+    quoted = iter(QUOTED.findall(text))
+    return re.sub('""', lambda _: next(quoted), BRACKETS.sub(r'\1', ' '.join(QUOTED.sub('""', text).split())))
 
 
 def tokens(text):
@@ -211,6 +213,11 @@ def public_calls(root):
             yield file, '::'.join([crate, *module, *function.path]), function
 
 
+def own_traits(root):
+    """The names of the traits that the repository declares."""
+    return {name for _, file, _ in code_files(root) for name in re.findall(r'\btrait\s+(\w+)', CODE_COMMENT.sub(blank, read(file)))}
+
+
 def public_impls(root):
     """Yields (file, name, impl) of each trait that a library has for a type, its name as `crate::Type::Trait`. How contracts see a value of
     a type, its `Model`, is no call."""
@@ -252,7 +259,8 @@ def blank(skipped):
 
 
 def without_comments(text):
-    return re.sub(ANTT_SKIPPED, blank, text, flags=re.S)
+    """A text with blanks for its comments; what is quoted is no comment, whatever stands in it."""
+    return re.sub(ANTT_SKIPPED, lambda found: found.group() if QUOTED.match(found.group()) else blank(found), text, flags=re.S)
 
 
 def items_of(lines):

@@ -78,7 +78,7 @@ class Edits(Repository):
     def test_a_goal_in_other_words(self):
         self.assertEqual(self.fact('note: src/lib.rt:5:5: `search` found no proof (`slice_bounds-a-end`); `search` gave up at one of its limits'),
                          ('chunks::cut slice_bounds-a-end', False))
-        self.assertEqual(self.fact('note: src/lib.rt:5:5: index 8 is out of bounds of an array of 8 (`bounds-a-8`)'), ('chunks::cut bounds-a-8', False))
+        self.assertEqual(self.fact('note: src/lib.rt:5:5: index 8 is out of bounds of an array of 8 (`bounds-a-8`)'), ('', False))
 
     def test_a_goal_whose_name_is_cut_short(self):
         line = f'note: src/lib.rt:5:5: it is not proved that {"much " * 19}holds (`returns-then-a-long-name'[:160]

@@ -138,6 +138,26 @@ pub fn last() {}
                          ('chunks::Piece::Sized2', [('ensures', 'piece_size')]))
 
 
+    def test_an_impl_with_arrays_in_its_head(self):
+        self.write('crates/chunks/src/lib.rt', '''\
+impl Wrap<[u8; 8]> {
+    pub fn unsaid(&self) -> u8 {
+        0
+    }
+}
+
+impl From<[[u8; 2]; 4]> for Piece {
+    fn from(bytes: [[u8; 2]; 4]) -> Piece {
+        Piece(bytes)
+    }
+}
+''')
+        self.assert_reports(
+            self.rule,
+            'crates/chunks/src/lib.rt:2: `chunks::WrapU88::unsaid` has no ensures',
+            'crates/chunks/src/lib.rt:7: `chunks::Piece::From<[[u8;2];4]>` has no ghost member')
+
+
 class NoRequiresAtTheBoundary(Repository):
     rule = staticmethod(rules.no_requires_at_the_boundary)
 
@@ -244,6 +264,40 @@ pub record Vague (report : ℕ) : Type 0 where
         self.assert_passes(self.rule)
         self.contract('(out: &mut [u8]) -> u64', 'Laid (run_of 1) result out.old (out.new)')
         self.assert_passes(self.rule)
+
+
+    def member(self, trait, text):
+        self.write('crates/chunks/src/lib.rt', f'''\
+pub trait Numbered {{
+    ghost number_in: {{ Self → ℕ }};
+
+    fn number(self) -> u8
+        ensures {{ result ≡ number_in self }};
+}}
+
+impl {trait} for Piece {{
+    ghost member = {{ {text} }};
+
+    fn done(self) {{}}
+}}
+''')
+
+    def assert_member_weak(self, trait, text, weakness):
+        self.member(trait, text)
+        self.assert_reports(self.rule, f'crates/chunks/src/lib.rt:8: `chunks::Piece::{trait.split("::")[-1]}`: {weakness}')
+
+    def test_reports_an_impl_that_is_no_equation(self):
+        self.assert_member_weak('fmt::Display', 'λ piece. Some (name_of piece)', '`λ piece. Some(name_of piece)` is no equation for `piece`')
+        self.assert_member_weak('From<u8>', 'λ n piece. piece.at ≡ n', '`λ n piece. piece.at ≡ n` is no equation for `piece`')
+        self.assert_member_weak('From<u8>', 'λ n piece. n ≡ n', '`λ n piece. n ≡ n` is no equation for `piece`')
+        self.assert_member_weak('From<u8>', 'λ n piece. piece ≡ piece', '`piece` is said by what is left itself: `piece`')
+        self.assert_member_weak('From<u8>', 'gives', '`gives` is no equation')
+
+    def test_passes_an_impl_that_is_one(self):
+        for trait, text in (('From<u8>', 'λ n piece. piece ≡ piece_of n'), ('Default', 'λ piece. piece ≡ record { at = replicate 8 0; }'),
+                            ('Numbered', 'number_of'), ('Numbered', 'number_or T.number_in')):
+            self.member(trait, text)
+            self.assert_passes(self.rule)
 
 
 class ContractsAsPromised(Repository):

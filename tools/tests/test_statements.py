@@ -90,6 +90,13 @@ class Statements(Repository):
         self.assertEqual(self.changed('proofs/Whole.antt', 'piece_of n ≡ n', 'n ≡ n'), {'Whole'})
         self.assertEqual(self.changed('proofs/Whole.antt', 'pub piece_whole : Whole n', 'pub piece_whole : ℕ'), {'piece_whole', 'Whole'})
 
+    def test_what_is_quoted_is_pinned(self):
+        self.files['specs/Names.antt'] = 'abbrev pub name_of : ℕ → List ℕ\nname_of n = codes "a {b  -- c" -- a comment\n'
+        self.write('crates/chunks/specs/Names.antt', self.files['specs/Names.antt'])
+        for old, new in (('"a ', '"b '), ('-- c"', '-- d"'), ('b  --', 'b --'), ('a {b', 'a { b'), ('"a {b  -- c"', '""')):
+            self.assertEqual(self.changed('specs/Names.antt', old, new), {'name_of'})
+        self.assertEqual(self.changed('specs/Names.antt', '-- a comment', '-- another'), set())
+
     def test_a_premise_of_a_section_is_part_of_the_statement(self):
         self.assertEqual(self.changed('proofs/Whole.antt', 'n ≤ 8', 'n ≤ 7'), {'piece_whole'})
 

@@ -99,10 +99,9 @@ fn poll_tape(c: BusClear, t: Terms, tape: Tape<'_>) -> Polls
             }
         }
         if polls == t.budget {
-            Ending::Spent
-        } else {
-            Ending::TapeOver
+            break 'run Ending::Spent;
         }
+        Ending::TapeOver
     };
     Polls {
         ending,
@@ -113,14 +112,23 @@ fn poll_tape(c: BusClear, t: Terms, tape: Tape<'_>) -> Polls
 }
 
 // Lays the changes of one poll into the memory, and answers where the next ones go.
+// Kept: one by one. By `copy_from_slice` a poll that waits takes half as much again, and the library for C needs `memmove`.
 fn lay(pins: Pins, memory: &mut [u8], at: usize) -> usize
     requires { at + length (changes_of pins) ≤ length memory.old }
     ensures { (result ≡ at + length (changes_of pins)) × (memory.new ≡ sets memory.old at (change_bytes pins)) }
 {
-    let bytes = pins.bytes();
-    let end = at + bytes.len();
-    memory[at..end].copy_from_slice(bytes);
-    end
+    match *pins.bytes() {
+        [] => at,
+        [only] => {
+            memory[at] = only;
+            at + 1
+        }
+        [first, second, ..] => {
+            memory[at] = first;
+            memory[at + 1] = second;
+            at + 2
+        }
+    }
 }
 
 // Polls once more, as often as the run did, and lays the pin changes into the memory: it is known by now that there is room.

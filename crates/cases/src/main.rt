@@ -217,7 +217,7 @@ fn print_ending(out: &mut impl Write, ending: Option<Ending>) -> io::Result<()> 
         None => writeln!(out, " no room"),
         Some(Ending::Stuck) => writeln!(out, " stuck"),
         Some(Ending::Refused) => writeln!(out, " refused by the sensor"),
-        Some(Ending::Finished(phase)) => writeln!(out, " finished in {phase}"),
+        Some(Ending::Finished(phase)) => writeln!(out, " finished in {}", phase.name()),
     }
 }
 

@@ -1,12 +1,10 @@
 // The controller's phases, and its rule for each command. The inspector and the model walk a list by these rules.
 #![tactic(auto)]
 
-ghost use Rattle.std.specs.Prelude.{◌≡◌, Some};
+ghost use Rattle.std.specs.Prelude.{◌≡◌};
 ghost use Rattle.controller.specs.Rules.{is_read, may_start, may_write, after_write, may_read, may_stop, may_end};
 ghost use Rattle.controller.specs.Model.{phase_number, phase_numbered};
 ghost use Rattle.controller.specs.Names.{phase_name};
-
-use std::fmt;
 
 mod filled;
 pub mod inspector;
@@ -34,21 +32,20 @@ impl From<Phase> for u8 {
     }
 }
 
-impl fmt::Display for Phase {
-    ghost output = { λ phase. Some (phase_name phase) };
-
-    fn fmt<W: fmt::Write>(&self, f: &mut fmt::Formatter<W>) -> fmt::Result {
-        f.write_str(match self {
+impl Phase {
+    // Its name as text.
+    pub fn name(self) -> &'static str
+        ensures { result.now ≡ phase_name self }
+    {
+        match self {
             Phase::Idle => "Idle",
             Phase::Started => "Started",
             Phase::Writing => "Writing",
             Phase::Reading => "Reading",
             Phase::ReadDone => "ReadDone",
-        })
+        }
     }
-}
 
-impl Phase {
     // The phase of this number.
     // Kept: by name; as a TryFrom it would need an error type that says no more than None.
     fn numbered(number: u32) -> Option<Phase>

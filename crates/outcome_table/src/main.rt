@@ -4,6 +4,7 @@
 // the four; and the two together, with the poll to come and with the poll behind, in the same order.
 #![tactic(auto)]
 
+use arrayvec::ArrayVec;
 use outcome::{Due, Error, Outcome, Reason, Snapshot};
 use std::io::{self, Write};
 
@@ -13,6 +14,9 @@ const DONE: [u32; 8] = [0x8000_3000, 0x8000_0902, 0x2000, 0, 0, 0, 0, 0];
 const WAITING: [u32; 8] = [0x8000_3000, 0x0902, 0x2000, 0, 0, 0, 0, 0];
 
 const DEADLINES: [Due; 4] = [None, Some(1001), Some(1000), Some(999)];
+
+// The bytes of a line, which goes out by one write.
+const LINE: usize = 36;
 
 fn letter(outcome: Outcome) -> u8 {
     match outcome {
@@ -50,11 +54,13 @@ fn fill(line: &mut [u8; 34], bits: u8) {
 fn main(rt: HostRuntime) -> io::Result<()> {
     let mut out = rt.stdout();
     for bits in 0..=u8::MAX {
-        let mut line = [b' '; 34];
-        line[33] = b'\n';
-        fill(&mut line, bits);
-        write!(out, "{bits:02x}")?;
-        out.write_all(&line)?;
+        let mut letters = [b' '; 34];
+        letters[33] = b'\n';
+        fill(&mut letters, bits);
+        let mut line: ArrayVec<u8, LINE> = ArrayVec::new();
+        write!(line, "{bits:02x}")?;
+        line.write_all(&letters)?;
+        out.write_all(line.as_slice())?;
     }
     Ok(())
 }

@@ -14,12 +14,10 @@ use transaction::{Handing, Progress, Request, Settings};
 const FIFO: usize = 32;
 
 // Room for the events of any transaction, two bytes each: a script writes and reads at most 8,189 bytes in at most 1,366 records.
-const EVENTS: usize = 65536;
+pub(super) type Events = ArrayVec<u8, 65536>;
 
 // Room for the events of a list: eight words, 32 FIFO bytes and 32 received bytes cause at most 72.
 const ROOM: usize = 144;
-
-pub(super) const READ_BUFFER: usize = 4096;
 
 // No script has as many lists.
 const MOST_LISTS: usize = 4096;
@@ -30,25 +28,31 @@ const COMPLETED: u8 = 0xE0;
 const DONE: u32 = 0x8000_0000;
 
 // How far the lists have come: the record, how many lists there were, the phase that they leave, the byte that the sensor sends next,
-// what was read, and the events so far, two bytes each as the model lays them.
+// what was read, and the events so far, two bytes each as the model lays them. What is large is lent.
 #[derive(Drop)]
-pub(super) struct Course<'a> {
+pub(super) struct Course<'a, 'm> {
     request: Request<'a>,
     settings: Settings,
     progress: Progress,
     pub(super) lists: usize,
     phase: u32,
     sends: u8,
-    buffer: [u8; READ_BUFFER],
-    pub(super) events: ArrayVec<u8, EVENTS>,
+    buffer: &'m mut [u8],
+    events: &'m mut Events,
 }
 
 fn done(word: u32) -> u32 {
     if word == 0 { 0 } else { word | DONE }
 }
 
-impl<'a> Course<'a> {
-    pub(super) fn new(progress: Progress, settings: Settings, request: Request<'a>) -> Course<'a> {
+impl<'a, 'm> Course<'a, 'm> {
+    pub(super) fn new(
+        progress: Progress,
+        settings: Settings,
+        request: Request<'a>,
+        buffer: &'m mut [u8],
+        events: &'m mut Events,
+    ) -> Course<'a, 'm> {
         Course {
             request,
             settings,
@@ -56,8 +60,8 @@ impl<'a> Course<'a> {
             lists: 0,
             phase: 0,
             sends: 0,
-            buffer: [0; READ_BUFFER],
-            events: ArrayVec::new(),
+            buffer,
+            events,
         }
     }
 
@@ -101,7 +105,7 @@ impl<'a> Course<'a> {
             self.request,
             snapshot,
             received.as_slice(),
-            &mut self.buffer,
+            self.buffer,
         );
         self.progress = completed.progress;
         Ok(matches!(completed.answer, Ok(Outcome::Done)))

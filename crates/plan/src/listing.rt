@@ -1,5 +1,6 @@
 // A list in words.
 use crate::{refusals, words};
+use arrayvec::ArrayVec;
 use controller::{Commands, inspector};
 use outcome::Due;
 use refusal::Refusal;
@@ -10,15 +11,21 @@ use std::io::Write;
 // Kept: a number, since `inspect` and `run` promise any number of a phase, and a list after a refused one comes in none.
 const NONE: u32 = 5;
 
+// No line of a FIFO's bytes is longer.
+const LONGEST: usize = 128;
+
+// The line goes out by one write.
 fn print_fifo(out: &mut impl Write, bytes: &[u8]) -> io::Result<()> {
-    write!(out, "  FIFO      ")?;
+    let mut line: ArrayVec<u8, LONGEST> = ArrayVec::new();
+    write!(line, "  FIFO      ")?;
     if bytes.is_empty() {
-        write!(out, " nothing")?;
+        write!(line, " nothing")?;
     }
     for byte in bytes {
-        write!(out, " {byte:02X}")?;
+        write!(line, " {byte:02X}")?;
     }
-    writeln!(out)
+    writeln!(line)?;
+    out.write_all(line.as_slice())
 }
 
 fn print_due(out: &mut impl Write, due: Due) -> io::Result<()> {
@@ -49,7 +56,7 @@ pub(super) fn print_list(
     write!(out, "  inspector  ")?;
     match inspector::inspect(list, phase) {
         Some(after) => {
-            writeln!(out, "passes, leaves {after}")?;
+            writeln!(out, "passes, leaves {}", after.name())?;
             Ok(u32::from(u8::from(after)))
         }
         None => {

@@ -10,10 +10,11 @@
 // text that cannot be read nothing is shown but the line of its first fault.
 #![tactic(auto)]
 
-use course::{Course, READ_BUFFER};
+use arrayvec::ArrayVec;
+use course::{Course, Events};
 use std::io;
 use std::io::{Read, Write};
-use text::Asked;
+use text::{Asked, Script};
 use transaction::{Deadline, Progress, Request, Settings};
 
 mod course;
@@ -24,10 +25,12 @@ mod tokens;
 mod traffic;
 mod words;
 
+const READ_BUFFER: usize = 4096;
+
 // No text is as long.
 const TOO_LONG: usize = 65536;
 
-fn print_heading(out: &mut impl Write, asked: &Asked) -> io::Result<()> {
+fn print_heading(out: &mut impl Write, asked: Asked, length: usize) -> io::Result<()> {
     // Two hex digits, or all eight where two do not do.
     let address = asked.address;
     if address > 0xFF {
@@ -35,7 +38,6 @@ fn print_heading(out: &mut impl Write, asked: &Asked) -> io::Result<()> {
     } else {
         write!(out, "address {address:02X}")?;
     }
-    let length = asked.script.len();
     let unit = if length == 1 { "byte" } else { "bytes" };
     write!(out, ", script of {length} {unit}, ")?;
     match asked.deadline {
@@ -50,14 +52,36 @@ fn print_heading(out: &mut impl Write, asked: &Asked) -> io::Result<()> {
     }
 }
 
-fn show(out: &mut impl Write, asked: &Asked) -> io::Result<()> {
-    print_heading(out, asked)?;
+// The lists of a script that is accepted, and the traffic. Called and not inlined, so that a refused one pays nothing for the memory.
+#[inline(never)]
+fn show_accepted(
+    out: &mut impl Write,
+    progress: Progress,
+    settings: Settings,
+    request: Request<'_>,
+) -> io::Result<()> {
+    let mut buffer = [0; READ_BUFFER];
+    let mut events: Events = ArrayVec::new();
+    let mut course = Course::new(progress, settings, request, &mut buffer, &mut events);
+    course.run(out)?;
+    let lists = course.lists;
+    writeln!(out, "\nbus")?;
+    let traffic = traffic::print_traffic(out, events.as_slice())?;
+    writeln!(
+        out,
+        "\nlists {lists}, bytes written {}, bytes read {}",
+        traffic.written, traffic.read
+    )
+}
+
+fn show(out: &mut impl Write, asked: Asked, script: &[u8]) -> io::Result<()> {
+    print_heading(out, asked, script.len())?;
     let settings = Settings {
         deadline: asked.deadline,
     };
     let request = Request {
         address: asked.address,
-        script: asked.script.as_slice(),
+        script,
     };
     let begun = transaction::begin(
         Progress::default(),
@@ -67,31 +91,36 @@ fn show(out: &mut impl Write, asked: &Asked) -> io::Result<()> {
         false,
         0,
     );
-    if let Err(refusal) = begun.answer {
-        return refusals::print_refusal(out, refusal, request.script);
+    match begun.answer {
+        Ok(_) => show_accepted(out, begun.progress, settings, request),
+        Err(refusal) => refusals::print_refusal(out, refusal, script),
     }
-    let mut course = Course::new(begun.progress, settings, request);
-    course.run(out)?;
-    writeln!(out, "\nbus")?;
-    let traffic = traffic::print_traffic(out, course.events.as_slice())?;
-    writeln!(
-        out,
-        "\nlists {}, bytes written {}, bytes read {}",
-        course.lists, traffic.written, traffic.read
-    )
+}
+
+// What a text comes to, or the line of its first fault.
+#[inline(never)]
+fn answer(out: &mut impl Write, text: &[u8]) -> io::Result<()> {
+    let mut script: Script = ArrayVec::new();
+    match text::read_text(text, &mut script) {
+        Ok(asked) => show(out, asked, script.as_slice()),
+        Err(unreadable) => writeln!(out, "{unreadable}"),
+    }
+}
+
+// Reads the input in front of the text, and answers how many bytes there are.
+#[inline(never)]
+fn read(input: impl Read + Drop, text: &mut [u8]) -> io::Result<u64> {
+    let mut room = text;
+    io::copy(&mut input.take(TOO_LONG as u64), &mut room)
 }
 
 fn main(rt: HostRuntime) -> io::Result<()> {
     let mut out = rt.stdout();
     // Kept: the text is read into fixed memory, so that no lack of memory can end the program.
     let mut text = [0; TOO_LONG];
-    let mut room = &mut text[..];
-    let n = io::copy(&mut rt.stdin().take(TOO_LONG as u64), &mut room)? as usize;
+    let n = read(rt.stdin(), &mut text)? as usize;
     if n >= TOO_LONG {
         return writeln!(out, "the text is longer than 65,535 bytes");
     }
-    match text::read_text(&text[..n]) {
-        Ok(asked) => show(&mut out, &asked),
-        Err(unreadable) => writeln!(out, "{unreadable}"),
-    }
+    answer(&mut out, &text[..n])
 }

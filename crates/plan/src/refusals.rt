@@ -116,7 +116,7 @@ fn advice(refusal: Refusal, script: &[u8]) -> (Place, &'static str) {
 }
 
 pub(super) fn print_name(out: &mut impl Write, refusal: Refusal) -> io::Result<()> {
-    writeln!(out, "refused: {} {refusal}", refusal.number())
+    writeln!(out, "refused: {} {}", refusal.number(), refusal.name())
 }
 
 pub(super) fn print_refusal(

@@ -9,12 +9,13 @@ use transaction::Deadline;
 // No script is longer.
 const MOST: usize = 8192;
 
-// What is asked for.
-#[derive(Drop)]
+pub(super) type Script = ArrayVec<u8, MOST>;
+
+// What is asked for beside the script, which is read into memory that the caller lends: by value it would be copied with each answer.
+#[derive(Clone, Copy)]
 pub(super) struct Asked {
     pub address: u32,
     pub deadline: Deadline,
-    pub script: ArrayVec<u8, MOST>,
 }
 
 // Why a text cannot be read.
@@ -66,7 +67,7 @@ fn hex_digit(b: u8) -> Result<u8, Fault>
 }
 
 // Bytes of the script, two hex digits each.
-fn add_bytes(script: &mut ArrayVec<u8, MOST>, word: &[u8]) -> Result<(), Fault> {
+fn add_bytes(script: &mut Script, word: &[u8]) -> Result<(), Fault> {
     for pair in word.chunks(2) {
         let high = hex_digit(pair[0])?;
         let low = pair.get(1).ok_or(Fault::HalfByte)?;
@@ -98,10 +99,9 @@ fn read_deadline(words: &mut Words<'_>) -> Result<Deadline, Fault>
     }
 }
 
-fn read_words(words: &mut Words<'_>) -> Result<Asked, Fault> {
+fn read_words(words: &mut Words<'_>, script: &mut Script) -> Result<Asked, Fault> {
     let mut address = None;
     let mut deadline = Deadline::None;
-    let mut script = ArrayVec::new();
     while let Some(word) = words.next() {
         match word {
             b"address" => {
@@ -109,20 +109,19 @@ fn read_words(words: &mut Words<'_>) -> Result<Asked, Fault> {
                 address = Some(u32::try_from(n).map_err(|_| Fault::BadAddress)?);
             }
             b"deadline" => deadline = read_deadline(words)?,
-            _ => add_bytes(&mut script, word)?,
+            _ => add_bytes(script, word)?,
         }
     }
     Ok(Asked {
         address: address.ok_or(Fault::NoAddress)?,
         deadline,
-        script,
     })
 }
 
-// Reads the whole text.
-pub(super) fn read_text(text: &[u8]) -> Result<Asked, Unreadable> {
+// Reads the whole text; the script's bytes come behind those that are there.
+pub(super) fn read_text(text: &[u8], script: &mut Script) -> Result<Asked, Unreadable> {
     let mut words = Words::new(text);
-    read_words(&mut words).map_err(|fault| Unreadable {
+    read_words(&mut words, script).map_err(|fault| Unreadable {
         fault,
         line: words.line,
     })

@@ -1,7 +1,11 @@
 // What goes over the bus, a line for each run: S is START and Sr a repeated one; then the address byte, with w where bytes are written
 // and r where they are read; then the bytes; P is STOP. A byte that is acknowledged has a +, one that is not a -.
+use arrayvec::ArrayVec;
 use std::io;
 use std::io::Write;
+
+// No event is printed longer.
+const LONGEST: usize = 8;
 
 // An event, and of a byte the sign of its acknowledge bit.
 #[derive(Clone, Copy)]
@@ -63,11 +67,13 @@ impl Traffic {
     }
 }
 
-// Prints the events, two bytes each as the model lays them, and counts them.
+// Prints the events, two bytes each as the model lays them, and counts them. An event goes out by one write.
 pub(super) fn print_traffic(out: &mut impl Write, events: &[u8]) -> io::Result<Traffic> {
     let mut traffic = Traffic::default();
     for event in events.chunks_exact(2) {
-        traffic.print_event(out, Event::from([event[0], event[1]]))?;
+        let mut text: ArrayVec<u8, LONGEST> = ArrayVec::new();
+        traffic.print_event(&mut text, Event::from([event[0], event[1]]))?;
+        out.write_all(text.as_slice())?;
     }
     if traffic.runs == 0 {
         write!(out, "  nothing")?;

@@ -1,11 +1,9 @@
 // Refusals, each with document 01's number. Outcomes 8 to 11 are errors of a list: see crate `outcome`.
 #![tactic(auto)]
 
-ghost use Rattle.std.specs.Prelude.{◌≡◌, ℕ, Some};
+ghost use Rattle.std.specs.Prelude.{◌≡◌, ℕ};
 ghost use Rattle.refusal.specs.Numbers.{number_of, number_or};
 ghost use Rattle.refusal.specs.Names.{name_of};
-
-use std::fmt;
 
 #[derive(Clone, Copy)]
 pub enum Refusal {
@@ -61,11 +59,12 @@ impl<T: Numbered> Numbered for Result<T, Refusal> {
     }
 }
 
-impl fmt::Display for Refusal {
-    ghost output = { λ refusal. Some (name_of refusal) };
-
-    fn fmt<W: fmt::Write>(&self, f: &mut fmt::Formatter<W>) -> fmt::Result {
-        f.write_str(match self {
+impl Refusal {
+    // Its name as text.
+    pub fn name(self) -> &'static str
+        ensures { result.now ≡ name_of self }
+    {
+        match self {
             Refusal::AddressInvalid => "AddressInvalid",
             Refusal::ZeroLengthInvalid => "ZeroLengthInvalid",
             Refusal::FifoExceeded => "FifoExceeded",
@@ -76,6 +75,6 @@ impl fmt::Display for Refusal {
             Refusal::OutOfTurn => "OutOfTurn",
             Refusal::ClockRange => "ClockRange",
             Refusal::ListRefused => "ListRefused",
-        })
+        }
     }
 }

@@ -6,7 +6,7 @@ ghost use Rattle.sitankulo.specs.Names.{told_answer, told_text, name_of};
 use crate::answer;
 use refusal::Refusal;
 
-// Kept: these are the C interface's numbers, and 8 to 11 are no `Refusal`, whose Display has the other names.
+// Kept: these are the C interface's numbers, and 8 to 11 are no `Refusal`, whose `name` has the other names.
 #[tactic(auto, unfolding(crate::specs::Names::name_of))]
 fn name_of(number: u8) -> &'static [u8]
     ensures { (result.now ≡ name_of number) × (length result.now ≤ 22) }
@@ -31,6 +31,7 @@ fn name_of(number: u8) -> &'static [u8]
 }
 
 // Lays a name into the lent memory, where there is room for it.
+// Kept: byte by byte. By `copy_from_slice` from names of many lengths the library for C needs `memmove`.
 fn tell(name: &[u8], text: &mut [u8]) -> Result<u32, Refusal>
     requires { length name.now ≤ 22 }
     ensures value { told result ≡ told_answer name.now (length text.old) }
@@ -43,7 +44,9 @@ fn tell(name: &[u8], text: &mut [u8]) -> Result<u32, Refusal>
     if text.len() < n {
         return Err(Refusal::Room);
     }
-    wire::put_bytes(name, n, text);
+    for (i, byte) in name.iter().enumerate() {
+        text[i] = *byte;
+    }
     Ok(answer::pack(0, n as u8))
 }
 

@@ -45,6 +45,7 @@ impl Progress {
 }
 
 // A read's bytes have to be there; then they land in the read buffer.
+// Kept: byte by byte. By `copy_from_slice` between two memories that C lends, the library for C needs `memmove`.
 fn land(found: Found, received: &[u8], buffer: &mut [u8]) -> Outcome
     requires { lands_at found + takes found ≤ length buffer.old }
     ensures { (result ≡ received_of (takes found) (length received.now))
@@ -60,7 +61,9 @@ fn land(found: Found, received: &[u8], buffer: &mut [u8]) -> Outcome
         if received.len() < length {
             return Outcome::Failed(Error::ExecutionIncomplete);
         }
-        buffer[landing..landing + length].copy_from_slice(&received[..length]);
+        for (i, byte) in received[..length].iter().enumerate() {
+            buffer[landing + i] = *byte;
+        }
     }
     Outcome::Done
 }
