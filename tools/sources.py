@@ -9,6 +9,11 @@ CODE_SKIPPED = r'//[^\n]*|/\*.*?\*/|"(?:\\.|[^"\\])*"|b\'(?:\\.|[^\'\\])\''
 ANTT_SKIPPED = r'(?<!\S)--[^\n]*|\{-.*?-\}|"(?:\\.|[^"\\])*"'
 
 QUOTED = re.compile(r'"(?:\\.|[^"\\])*"')
+# A type of arrays, up to five deep, in which a semicolon ends nothing.
+ARRAY = r'\[[^\[\]]*\]'
+for _ in range(4):
+    ARRAY = rf'\[(?:[^\[\]]|{ARRAY})*\]'
+
 CODE_BRACES = re.compile(CODE_SKIPPED + r'|[{}]', re.S)
 ANTT_BRACES = re.compile(ANTT_SKIPPED + r'|[{}]', re.S)
 ITEM = re.compile(
@@ -16,13 +21,13 @@ ITEM = re.compile(
     + r'|\bghost\s+use\b[^;]*;'
     + r'|(?P<pub>\bpub\s+)?(?:\bextern\s+"C"\s+)?\bfn\s+(?P<fn>\w+)'
     + r'|(?P<shown>\bpub\s+)?\b(?:struct|enum)\s+(?P<type>\w+)'
-    + r'|\bimpl\b\s*(?:<(?P<parameters>[^>]*)>\s*)?(?P<impl>(?:\[(?:[^\[\]]|\[[^\[\]]*\])*\]|[^{;\[])*?)\s*(?:\bwhere\b[^{]*)?\{'
+    + r'|\bimpl\b\s*(?:<(?P<parameters>[^>]*)>\s*)?(?P<impl>(?:' + ARRAY + r'|[^{;\[])*?)\s*(?:\bwhere\b[^{]*)?\{'
     + r'|(?P<open>\bpub\s+)?\btrait\s+(?P<trait>\w+)[^{]*\{'
     + r'|\bmod\s+(?P<mod>\w+)\s*\{'
     + r'|(?P<brace>[{}])',
     re.S)
 CLAUSE_OR_BODY = re.compile(
-    CODE_SKIPPED + r'|\[(?:[^\[\]]|\[[^\[\]]*\])*\]'
+    CODE_SKIPPED + '|' + ARRAY
     + r'|\b(?P<clause>ghost|requires|ensures)\b\*?\s*\w*\s*:?\s*\{|(?P<body>\{)|(?P<none>;)', re.S)
 MEMBER = re.compile(CODE_SKIPPED + r'|\bghost\s+(?P<name>\w+)\s*=\s*\{', re.S)
 CODE_COMMENT = re.compile(r'//[^\n]*|/\*.*?\*/', re.S)

@@ -146,8 +146,8 @@ impl Wrap<[u8; 8]> {
     }
 }
 
-impl From<[[u8; 2]; 4]> for Piece {
-    fn from(bytes: [[u8; 2]; 4]) -> Piece {
+impl From<[[[[[u8; 2]; 3]; 4]; 5]; 6]> for Piece {
+    fn from(bytes: [[[[[u8; 2]; 3]; 4]; 5]; 6]) -> Piece {
         Piece(bytes)
     }
 }
@@ -155,7 +155,7 @@ impl From<[[u8; 2]; 4]> for Piece {
         self.assert_reports(
             self.rule,
             'crates/chunks/src/lib.rt:2: `chunks::WrapU88::unsaid` has no ensures',
-            'crates/chunks/src/lib.rt:7: `chunks::Piece::From<[[u8;2];4]>` has no ghost member')
+            'crates/chunks/src/lib.rt:7: `chunks::Piece::From<[[[[[u8;2];3];4];5];6]>` has no ghost member')
 
 
 class NoRequiresAtTheBoundary(Repository):
