@@ -13,8 +13,9 @@ use transaction::{Handing, Progress, Request, Settings};
 // The bytes of the FIFO, and the bytes that one list may receive.
 const FIFO: usize = 32;
 
-// Room for the events of any transaction, two bytes each: a script writes and reads at most 8,189 bytes in at most 1,366 records.
-pub(super) type Events = ArrayVec<u8, 65536>;
+// Room for the events of any transaction, two bytes each: a script writes and reads at most 8,189 bytes in at most 1,366 records, and each
+// record brings at most a START and an address. With the STOP that is 10,922 events.
+pub(super) type Events = ArrayVec<u8, 32768>;
 
 // Room for the events of a list: eight words, 32 FIFO bytes and 32 received bytes cause at most 72.
 const ROOM: usize = 144;
