@@ -130,9 +130,13 @@ def weaknesses(function, file, reader):
 
 def impl_weaknesses(each, own_traits):
     """What the ghost members of an `impl` leave open. One is an equation for the last of its variables, which is what a call gives; or, of a
-    trait of the repository, the function by which the trait's own contract says that."""
+    trait of the repository, the function by which the trait's own contract says that. A clause at a method would stand in place of the
+    trait's."""
     trait = re.sub(r'<.*', '', each.path[-1])
-    for _, clause in each.clauses:
+    for kind, clause in each.clauses:
+        if kind == 'method':
+            yield f'a method has `{clause}` of its own, in place of what the trait says'
+            continue
         member = sources.normal(clause)
         found = re.fullmatch(r'λ ([^.]*\S)\. (.*)', member, re.S)
         if not found:

@@ -33,7 +33,7 @@ def every_pub_fn_has_ensures(root):
     return ([f'{place(root, file, function.line)}: `{name}` has no ensures'
              for file, name, function in sources.public_calls(root) if 'ensures' not in dict(function.clauses)]
             + [f'{place(root, file, each.line)}: `{name}` has no ghost member'
-               for file, name, each in sources.public_impls(root) if not each.clauses])
+               for file, name, each in sources.public_impls(root) if 'ensures' not in dict(each.clauses)])
 
 
 def no_requires_at_the_boundary(root):

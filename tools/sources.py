@@ -5,10 +5,10 @@ from dataclasses import dataclass, field
 from pathlib import Path
 
 # Comments and quoted text, in which a brace or a keyword means nothing.
-CODE_SKIPPED = r'//[^\n]*|/\*.*?\*/|"(?:\\.|[^"\\])*"|b\'(?:\\.|[^\'\\])\''
-ANTT_SKIPPED = r'(?<!\S)--[^\n]*|\{-.*?-\}|"(?:\\.|[^"\\])*"'
+QUOTED = r'"(?:\\.|[^"\\])*"'
+CODE_SKIPPED = rf'//[^\n]*|/\*.*?\*/|{QUOTED}|b\'(?:\\.|[^\'\\])\''
+ANTT_SKIPPED = rf'(?<!\S)--[^\n]*|\{{-.*?-\}}|{QUOTED}'
 
-QUOTED = re.compile(r'"(?:\\.|[^"\\])*"')
 # A type of arrays, up to five deep, in which a semicolon ends nothing.
 ARRAY = r'\[[^\[\]]*\]'
 for _ in range(4):
@@ -68,8 +68,8 @@ def listed_crates(root):
 
 def normal(text):
     """A text whose spacing says nothing: one space between words, none at a bracket. What is quoted stays as it is."""
-    quoted = iter(QUOTED.findall(text))
-    return re.sub('""', lambda _: next(quoted), BRACKETS.sub(r'\1', ' '.join(QUOTED.sub('""', text).split())))
+    quoted = iter(re.findall(QUOTED, text))
+    return re.sub('""', lambda _: next(quoted), BRACKETS.sub(r'\1', ' '.join(re.sub(QUOTED, '""', text).split())))
 
 
 def tokens(text):
@@ -145,14 +145,15 @@ def joined(name, parameters):
 
 
 def members(text, start):
-    """The ghost members of an `impl`, as clauses, and where the last one ends."""
+    """The ghost members of an `impl`, as clauses, and where the last one ends. A clause of a method of its own is one of kind 'method'."""
     clauses, ends = [], start
     stop = closing(text, text.rindex('{', 0, start), CODE_BRACES)
     for found in MEMBER.finditer(text, start, stop):
         if found['name']:
             ends = closing(text, found.end() - 1, ANTT_BRACES)
             clauses.append(('ensures', without_comments(text[found.end():ends - 1]).strip()))
-    return clauses, ends
+    methods = re.sub(CODE_SKIPPED, ' ', text[ends:stop], flags=re.S)
+    return clauses + [('method', word) for word in re.findall(r'\b(?:requires|ensures)\b', methods)], ends
 
 
 def every_item(text):
@@ -265,7 +266,7 @@ def blank(skipped):
 
 def without_comments(text):
     """A text with blanks for its comments; what is quoted is no comment, whatever stands in it."""
-    return re.sub(ANTT_SKIPPED, lambda found: found.group() if QUOTED.match(found.group()) else blank(found), text, flags=re.S)
+    return re.sub(ANTT_SKIPPED, lambda found: found.group() if re.match(QUOTED, found.group()) else blank(found), text, flags=re.S)
 
 
 def items_of(lines):

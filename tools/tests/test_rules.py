@@ -293,6 +293,15 @@ impl {trait} for Piece {{
         self.assert_member_weak('From<u8>', 'λ n piece. piece ≡ piece', '`piece` is said by what is left itself: `piece`')
         self.assert_member_weak('From<u8>', 'gives', '`gives` is no equation')
 
+    def test_reports_a_method_of_an_impl_with_clauses_of_its_own(self):
+        self.member('Numbered', 'number_of')
+        file = self.root / 'crates/chunks/src/lib.rt'
+        file.write_text(file.read_text().replace('    fn done(self) {}\n', '    fn number(self) -> u8\n        ensures { result ≤ 255 }\n    {\n        0\n    }\n'))
+        self.assert_reports(self.rule, 'crates/chunks/src/lib.rt:8: `chunks::Piece::Numbered`: '
+                                       'a method has `ensures` of its own, in place of what the trait says')
+        file.write_text(file.read_text().replace('        ensures { result ≤ 255 }\n', '        // ensures {\n'))
+        self.assert_passes(self.rule)
+
     def test_passes_an_impl_that_is_one(self):
         for trait, text in (('From<u8>', 'λ n piece. piece ≡ piece_of n'), ('Default', 'λ piece. piece ≡ record { at = replicate 8 0; }'),
                             ('Numbered', 'number_of'), ('Numbered', 'number_or T.number_in')):
